@@ -1,0 +1,4 @@
+pub mod Exponents
+pub mod MonomialOrder
+pub mod Polynomial
+pub mod Parts
