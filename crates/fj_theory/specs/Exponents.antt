@@ -1,5 +1,5 @@
 -- Exponent lists of monomials in eight variables.
-use Rattle.std.specs.Prelude.{◌≡◌, ℕ, ◌+◌, ◌*◌, ◌-◌, ◌<◌, ◌≤◌, ◌&&◌, Bool, true, false, nat_le, List, [], ◌∷◌, length, map, sum, replicate, AllPairs}
+use Rattle.std.specs.Prelude.{◌≡◌, ℕ, ◌+◌, ◌*◌, ◌-◌, ◌&&◌, Bool, true, false, nat_le, List, [], ◌∷◌, length, map, sum}
 
 -- An exponent list: one number for each of the eight variables.
 pub record IsExponents (a : List ℕ) : Type 0 where

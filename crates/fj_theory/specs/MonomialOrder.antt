@@ -1,11 +1,11 @@
 -- Monomial orders by keys: a key gives each exponent list nine naturals, and the order is the lexicographic order of
 -- the keys (Cox, Little and O'Shea 2015, chapter 2).
-use Rattle.std.specs.Prelude.{◌≡◌, ℕ, zero, suc, ◌+◌, ◌≤◌, ◌<◌, List, [], ◌∷◌, ◌++◌, length, take, sum, All}
+use Rattle.std.specs.Prelude.{◌≡◌, ℕ, zero, suc, ◌≤◌, List, [], ◌∷◌, ◌++◌, length, take, sum, slice_index, All}
 use Rattle.std.specs.Ordering.{nat_cmp}
 use Rattle.std.specs.Cmp.Lexicographic.{slice_cmp}
 use Rattle.std.specs.declared.cmp.Ordering.{Ordering}
 use Rattle.std.specs.declared.cmp.Ordering.TheVariants.{Less}
-use Rattle.fj_theory.specs.Exponents.{IsExponents, origin, plus, total}
+use Rattle.fj_theory.specs.Exponents.{IsExponents, plus, total}
 
 -- The order of a key.
 abbrev pub compare_by : (List ℕ → List ℕ) → List ℕ → List ℕ → Ordering
@@ -23,6 +23,14 @@ front_sums (suc k) a = sum (take (suc k) a) ∷ front_sums k a
 -- Grevlex: the total decides, and at equal totals the last exponent that differs, the smaller being greater.
 unfoldable pub grevlex_key : List ℕ → List ℕ
 grevlex_key a = front_sums 8 a ++ 0 ∷ []
+
+-- Grlex: the total decides, and at equal totals Lex.
+unfoldable pub grlex_key : List ℕ → List ℕ
+grlex_key a = sum a ∷ a
+
+-- An elimination order for the eighth variable: its exponent decides, and then the other seven in Grevlex.
+unfoldable pub elim_key : List ℕ → List ℕ
+elim_key a = slice_index a 7 ∷ front_sums 7 a ++ 0 ∷ []
 
 -- What makes a key a monomial order: nine entries, none above the total; no two exponent lists have one key; the key
 -- of a product is the sum of the keys.

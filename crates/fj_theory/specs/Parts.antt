@@ -1,5 +1,5 @@
 -- The parts of a polynomial over its q-th powers (Blickle, Mustață and Smith 2008, section 2).
-use Rattle.std.specs.Prelude.{◌≡◌, ◌≢◌, ℕ, ◌<◌, ◌^◌, List, [], ◌∷◌, All, map}
+use Rattle.std.specs.Prelude.{◌≡◌, ◌≢◌, ℕ, ◌<◌, List, [], ◌∷◌, All, map}
 use Rattle.std.specs.FinMap.{empty}
 use Rattle.fj_coeff.specs.Field.{Field}
 use Rattle.fj_theory.specs.Exponents.{IsExponents}

@@ -1,11 +1,11 @@
 -- Polynomials in eight variables over a field on ranks, as finite maps from exponent lists to nonzero coefficients.
-use Rattle.std.specs.Prelude.{◌≡◌, ℕ, zero, suc, ◌+◌, ◌<◌, ◌==◌, if◌then◌else◌, List, [], ◌∷◌, ◌++◌, length, map, unwrap_or, Option, Some, None, Bool}
+use Rattle.std.specs.Prelude.{◌≡◌, ℕ, zero, suc, ◌<◌, ◌==◌, if◌then◌else◌, List, [], ◌∷◌, ◌++◌, map, unwrap_or, Some}
 use Rattle.std.specs.Ordering.{nat_cmp}
 use Rattle.std.specs.List.{flat_map}
 use Rattle.std.specs.Cmp.Lexicographic.{slice_cmp}
 use Rattle.std.specs.FinMap.{FinMap, get, insert, empty, keys}
 use Rattle.fj_coeff.specs.Field.{Field}
-use Rattle.fj_theory.specs.Exponents.{IsExponents, origin, plus, minus, divides, total}
+use Rattle.fj_theory.specs.Exponents.{IsExponents, origin, plus, minus, divides}
 
 -- A finite map from exponent lists to coefficients.
 abbrev pub Polynomial : Type 0
