@@ -2,5 +2,7 @@
 #![tactic(auto)]
 
 mod mono;
+mod order;
 
 pub use mono::{High, Mono};
+pub use order::{Grevlex, Lex, Order};

@@ -78,6 +78,46 @@ impl Mono {
     {
         let quotient = self.exponents.map(|k| k / q);
         let residue = self.exponents.map(|k| k % q);
-        (Mono { exponents: quotient }, Mono { exponents: residue })
+        (
+            Mono {
+                exponents: quotient,
+            },
+            Mono { exponents: residue },
+        )
+    }
+}
+
+#[cfg(test)]
+mod tests {
+    use super::*;
+
+    #[test]
+    fn limit_of_the_degree(rt: HostRuntime) {
+        assert!(rt; Mono::new([DEGREE_LIMIT, 0, 0, 0, 0, 0, 0, 0]).is_ok());
+        assert!(rt; Mono::new([DEGREE_LIMIT, 0, 0, 0, 0, 0, 0, 1]).is_err());
+        assert!(rt; Mono::new([u64::MAX; 8]).is_err());
+        assert!(rt; Mono::new([1, 0, 2, 0, 0, 0, 0, 4]).is_ok_and(|m| m.total() == 7));
+        assert_eq!(rt; Mono::one().total(), 0);
+    }
+
+    // x^14*y*z^6 is the cube of x^4*z^2 times x^2*y.
+    #[test]
+    fn division_with_residue(rt: HostRuntime) {
+        let m = Mono::new([14, 1, 6, 0, 0, 0, 0, 0]).expect(&rt, "a small degree");
+        let (quotient, residue) = m.split(3);
+        let wanted = [
+            (4, 2),
+            (0, 1),
+            (2, 0),
+            (0, 0),
+            (0, 0),
+            (0, 0),
+            (0, 0),
+            (0, 0),
+        ];
+        for (i, (b, a)) in wanted.into_iter().enumerate() {
+            assert_eq!(rt; quotient.exp(i), b);
+            assert_eq!(rt; residue.exp(i), a);
+        }
     }
 }
