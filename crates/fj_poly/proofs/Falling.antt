@@ -1,0 +1,58 @@
+-- Lists of terms that fall in a monomial order: pushing, replacing and leaving out a term.
+use Rattle.std.proofs.Common.{◌≡◌, ℕ, List, [], ◌∷◌, ◌++◌, length, refl, sym, ap, ◌∙◌, subst, append_assoc, arith}
+use Rattle.std.specs.Ordering.{nat_cmp, ordering_reverse}
+use Rattle.std.specs.declared.cmp.Ordering.{Ordering}
+use Rattle.std.specs.declared.cmp.Ordering.TheVariants.{Less, Equal, Greater}
+use Rattle.fj_coeff.specs.Field.{Field}
+use Rattle.fj_theory.specs.MonomialOrder.{compare_by, IsMonomialOrder}
+use Rattle.fj_theory.proofs.MonomialOrder.{compare_by_total}
+use Rattle.fj_poly.specs.Terms.{IsFalling, AreTerms}
+
+greater_back : (r s : Ordering) → r ≡ ordering_reverse s → s ≡ Greater → r ≡ Less
+greater_back r Less e h = cc
+greater_back r Equal e h = cc
+greater_back r Greater e h = e
+
+less_back : (r s : Ordering) → r ≡ ordering_reverse s → s ≡ Less → r ≡ Greater
+less_back r Less e h = e
+less_back r Equal e h = cc
+less_back r Greater e h = cc
+
+module _ (key : List ℕ → List ℕ) where
+  -- Above and below are the two sides of one order.
+  pub below_from_above : (a b : List ℕ) → compare_by key a b ≡ Greater → compare_by key b a ≡ Less
+  below_from_above a b h = greater_back _ _ ((compare_by_total key).antisymm b a) h
+
+  pub above_from_below : (a b : List ℕ) → compare_by key a b ≡ Less → compare_by key b a ≡ Greater
+  above_from_below a b h = less_back _ _ ((compare_by_total key).antisymm b a) h
+
+  pub above_trans : (a b c : List ℕ) → compare_by key a b ≡ Greater → compare_by key b c ≡ Greater → compare_by key a c ≡ Greater
+  above_trans a b c h k = above_from_below c a ((compare_by_total key).trans c b a (below_from_above b c k) (below_from_above a b h))
+
+  falling_tail : (s : List ℕ × ℕ) (ts : List (List ℕ × ℕ)) → IsFalling key (s ∷ ts) → IsFalling key ts
+  falling_tail s [] h = tt
+  falling_tail s (t ∷ ts) h = h.1
+
+  -- What follows a term may be replaced by what falls behind it.
+  pub falling-replace : (out : List (List ℕ × ℕ)) (s : List ℕ × ℕ) (xs ys : List (List ℕ × ℕ))
+      → IsFalling key (out ++ s ∷ xs) → IsFalling key (s ∷ ys) → IsFalling key (out ++ s ∷ ys)
+  falling-replace [] s xs ys h tail = tail
+  falling-replace (r ∷ []) s xs ys h tail = (h.0, tail)
+  falling-replace (r ∷ t ∷ out) s xs ys h tail = (h.0, falling-replace (t ∷ out) s xs ys h.1 tail)
+
+  -- Only the exponents matter.
+  pub falling-exponents : (out : List (List ℕ × ℕ)) (a : List ℕ) (c d : ℕ) (xs : List (List ℕ × ℕ))
+      → IsFalling key (out ++ (a, c) ∷ xs) → IsFalling key (out ++ (a, d) ∷ xs)
+  falling-exponents [] a c d [] h = tt
+  falling-exponents [] a c d (x ∷ xs) h = h
+  falling-exponents (r ∷ []) a c d [] h = h
+  falling-exponents (r ∷ []) a c d (x ∷ xs) h = h
+  falling-exponents (r ∷ t ∷ out) a c d xs h = (h.0, falling-exponents (t ∷ out) a c d xs h.1)
+
+  -- A term may be left out.
+  pub falling-without : (out : List (List ℕ × ℕ)) (s : List ℕ × ℕ) (xs : List (List ℕ × ℕ))
+      → IsFalling key (out ++ s ∷ xs) → IsFalling key (out ++ xs)
+  falling-without [] s xs h = falling_tail s xs h
+  falling-without (r ∷ []) s [] h = tt
+  falling-without (r ∷ []) s (x ∷ xs) h = (above_trans r.0 s.0 x.0 h.0 h.1.0, h.1.1)
+  falling-without (r ∷ t ∷ out) s xs h = (h.0, falling-without (t ∷ out) s xs h.1)

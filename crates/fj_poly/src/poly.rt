@@ -1,0 +1,126 @@
+ghost use Rattle.std.specs.Prelude.{◌≡◌, ◌<◌, ◌↔◌, ℕ, List, map, IfOk, IsTrue, MatchOption, Option};
+ghost use Rattle.std.specs.FinMap.{empty, len};
+ghost use Rattle.fj_theory.specs.Polynomial.{coefficient, sum, term};
+
+use fj_coeff::Coeff;
+use fj_mono::{Grevlex, Mono, Order};
+use std::alloc::{AllocError, Global};
+use std::cmp::Ordering;
+use std::marker::{Model, PhantomData};
+
+/// A term: a nonzero coefficient times a monomial.
+#[derive(Clone, Copy)]
+struct Term<K: Coeff> {
+    coefficient: K,
+    monomial: Mono,
+}
+
+/// A polynomial in eight variables over K, a finite map from exponent lists to nonzero coefficients. Its terms are kept
+/// falling in the order O.
+#[derive(Drop)]
+pub struct Poly<K: Coeff, O: Order> {
+    terms: Vec<Term<K>>,
+    order: PhantomData<O>,
+}
+
+/// A polynomial whose terms fall in Grevlex.
+pub type GPoly<K> = Poly<K, Grevlex>;
+
+impl<K: Coeff, O: Order> Model for Poly<K, O> {
+    ghost use Rattle.std.specs.Prelude.{ℕ};
+    ghost use Rattle.std.specs.Coded.{coded_ℕ, coded_list};
+    ghost use Rattle.std.specs.FinMap.{code, from_entries};
+    ghost use Rattle.fj_theory.specs.Polynomial.{Polynomial};
+    ghost use Rattle.fj_poly.specs.Terms.{IsFalling, AreTerms, entries};
+
+    ghost Value = { Polynomial };
+
+    ghost coded = { code (coded_list coded_ℕ) coded_ℕ };
+
+    ghost view = { λ p. from_entries (entries K.rank p.terms.items) };
+
+    ghost invariant = { λ p. IsFalling O.key (entries K.rank p.terms.items) × AreTerms K.field (entries K.rank p.terms.items) };
+}
+
+impl<K: Coeff, O: Order> Poly<K, O> {
+    /// The zero polynomial.
+    pub fn zero(alloc: Global) -> Poly<K, O>
+        ensures { result ≡ empty }
+    {
+        Poly {
+            terms: Vec::new(alloc),
+            order: PhantomData,
+        }
+    }
+
+    /// The polynomial c*m, which is zero where c is zero.
+    pub fn term(alloc: Global, c: K, m: &Mono) -> Result<Poly<K, O>, AllocError>
+        ensures { IfOk result (λ p. p ≡ term (K.rank c) m.now.exponents) }
+    {
+        let mut terms = Vec::new(alloc);
+        if c != K::zero() {
+            terms.push(Term {
+                coefficient: c,
+                monomial: *m,
+            })?;
+        }
+        Ok(Poly {
+            terms,
+            order: PhantomData,
+        })
+    }
+
+    /// The sum.
+    pub fn add(&self, alloc: Global, o: &Poly<K, O>) -> Result<Poly<K, O>, AllocError>
+        ensures { IfOk result (λ p. p ≡ sum K.field self.now o.now) }
+    {
+        let mut left = self.terms.as_slice();
+        let mut right = o.terms.as_slice();
+        let mut terms = Vec::with_capacity(alloc, left.len().saturating_add(right.len()))?;
+        'merge: while let (Some((first, others)), Some((second, more))) =
+            (left.split_first(), right.split_first())
+        {
+            match O::cmp(&first.monomial, &second.monomial) {
+                Ordering::Greater => {
+                    terms.push(*first)?;
+                    left = others;
+                }
+                Ordering::Less => {
+                    terms.push(*second)?;
+                    right = more;
+                }
+                Ordering::Equal => {
+                    let coefficient = first.coefficient.add(second.coefficient);
+                    if coefficient != K::zero() {
+                        terms.push(Term {
+                            coefficient,
+                            monomial: first.monomial,
+                        })?;
+                    }
+                    left = others;
+                    right = more;
+                }
+            }
+        }
+        terms.extend_from_slice(left)?;
+        terms.extend_from_slice(right)?;
+        Ok(Poly {
+            terms,
+            order: PhantomData,
+        })
+    }
+
+    /// Whether the polynomial is zero.
+    pub fn is_zero(&self) -> bool
+        ensures { IsTrue result ↔ (self.now ≡ empty) }
+    {
+        self.terms.is_empty()
+    }
+
+    /// The number of terms.
+    pub fn len(&self) -> usize
+        ensures { result ≡ len self.now }
+    {
+        self.terms.len()
+    }
+}
