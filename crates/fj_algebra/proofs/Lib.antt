@@ -1,3 +1,4 @@
 pub mod Ring
 pub mod Sum
 pub mod Power
+pub mod Ideal
