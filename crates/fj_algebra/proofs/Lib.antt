@@ -2,3 +2,4 @@ pub mod Ring
 pub mod Sum
 pub mod Power
 pub mod Ideal
+pub mod Frobenius
