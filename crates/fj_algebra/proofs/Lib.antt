@@ -3,3 +3,4 @@ pub mod Sum
 pub mod Power
 pub mod Ideal
 pub mod Frobenius
+pub mod Parts
