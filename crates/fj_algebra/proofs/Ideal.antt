@@ -2,6 +2,7 @@
 use Rattle.std.proofs.Common.{◌≡◌, ℕ, zero, suc, List, [], ◌∷◌, ◌++◌, map, length, get_or, All, Contains, refl, sym, ap, ap₂, ◌∙◌}
 use Rattle.std.proofs.lemmas.List.Elements.{All-nil, All-cons, All-head, All-tail, All-map, All-append, All-weaker, All-contains}
 use Rattle.fj_algebra.specs.Ring.{CommutativeRing, RingMap, subtract}
+use Rattle.fj_algebra.specs.Sum.{sum_over}
 use Rattle.fj_algebra.specs.Ideal.{combination, list_combination, Member, Inside, Equal, multiples, products}
 use Rattle.fj_algebra.proofs.Ring.{zero_add, add_zero, add_assoc, mul_add, add_mul, mul_zero, zero_mul, one_mul, mul_assoc, mul_one, mul_left_comm, mul_comm, neg_mul, ring_laws}
 
@@ -117,6 +118,10 @@ module _ {A : Type 0} {R : CommutativeRing A} where
 
   pub list_from_Member : {L : List A} {h : A} → Member R L h → (cs : List A) × (length cs ≡ length L) × (h ≡ list_combination R cs L)
   list_from_Member {L} H = (entries_for L H.cofactors, length_entries_for L H.cofactors, H.is ∙ sym (list_combination-entries_for R H.cofactors L))
+
+  pub Member-sum_over : {X : Type 0} {L : List A} (f : X → A) (xs : List X) → All (λ x. Member R L (f x)) xs → Member R L (sum_over R f xs)
+  Member-sum_over {L = L} f [] each = Member-zero L
+  Member-sum_over {L = L} f (x ∷ xs) each = Member-add (All-head (λ x. Member R L (f x)) x xs each) (Member-sum_over f xs (All-tail (λ x. Member R L (f x)) x xs each))
 
   -- A combination of members is a member.
   pub Member-combination : {M : List A} (c : ℕ → A) (L : List A) → All (Member R M) L → Member R M (combination R c L)

@@ -10,22 +10,22 @@ use Rattle.fj_algebra.proofs.Ring.{mul_one, mul_comm, mul_assoc, add_mul, zero_m
 use Rattle.fj_algebra.proofs.Power.{power-mul}
 use Rattle.fj_algebra.proofs.Sum.{sum_over-same, sum_over-add, sum_over-mul, sum_over-zero}
 
-module _ {A I : Type 0} {R : CommutativeRing A} {q : ℕ} (P : Parts R I q) where
+module _ {A Residue : Type 0} {R : CommutativeRing A} {q : ℕ} (P : Parts R Residue q) where
   open R use {zero as 𝟘, one as 𝟙, add as ◌⊕◌, neg as ⊖◌, mul as ◌⊗◌}
 
   infixl 60 ◌⊕◌
   infixl 70 ◌⊗◌
   infix 80 ⊖◌
   -- A family whose element is h has the parts of h.
-  pub part_from : (h : A) (c : I → A) → h ≡ from_parts R q P.residues P.basis c → (a : I) → Contains P.residues a → P.part h a ≡ c a
+  pub part_from : (h : A) (c : Residue → A) → h ≡ from_parts R q P.residues P.basis c → (a : Residue) → Contains P.residues a → P.part h a ≡ c a
   part_from h c e = P.unique (P.part h) c (sym (P.from h) ∙ e)
 
-  pub from_parts-add : (c d : I → A) → from_parts R q P.residues P.basis (λ a. c a ⊕ d a) ≡ from_parts R q P.residues P.basis c ⊕ from_parts R q P.residues P.basis d
+  pub from_parts-add : (c d : Residue → A) → from_parts R q P.residues P.basis (λ a. c a ⊕ d a) ≡ from_parts R q P.residues P.basis c ⊕ from_parts R q P.residues P.basis d
   from_parts-add c d =
       sum_over-same R _ (λ a. power R (c a) q ⊗ P.basis a ⊕ power R (d a) q ⊗ P.basis a) (λ a. ap (λ x. x ⊗ P.basis a) (P.frobenius.ring_map.keeps_add (c a) (d a)) ∙ add_mul R (power R (c a) q) (power R (d a) q) (P.basis a)) P.residues
       ∙ sum_over-add R (λ a. power R (c a) q ⊗ P.basis a) (λ a. power R (d a) q ⊗ P.basis a) P.residues
 
-  pub from_parts-mul : (f : A) (c : I → A) → from_parts R q P.residues P.basis (λ a. f ⊗ c a) ≡ power R f q ⊗ from_parts R q P.residues P.basis c
+  pub from_parts-mul : (f : A) (c : Residue → A) → from_parts R q P.residues P.basis (λ a. f ⊗ c a) ≡ power R f q ⊗ from_parts R q P.residues P.basis c
   from_parts-mul f c =
       sum_over-same R _ (λ a. power R f q ⊗ (power R (c a) q ⊗ P.basis a)) (λ a. ap (λ x. x ⊗ P.basis a) (power-mul R f (c a) q) ∙ mul_assoc R (power R f q) (power R (c a) q) (P.basis a)) P.residues
       ∙ sum_over-mul R (power R f q) (λ a. power R (c a) q ⊗ P.basis a) P.residues
@@ -33,7 +33,7 @@ module _ {A I : Type 0} {R : CommutativeRing A} {q : ℕ} (P : Parts R I q) wher
   pub from_parts-zero : from_parts R q P.residues P.basis (λ a. 𝟘) ≡ 𝟘
   from_parts-zero = sum_over-same R _ (λ a. 𝟘) (λ a. ap (λ x. x ⊗ P.basis a) P.frobenius.ring_map.keeps_zero ∙ zero_mul R (P.basis a)) P.residues ∙ sum_over-zero R P.residues
 
-  module _ (a : I) (listed : Contains P.residues a) where
+  module _ (a : Residue) (listed : Contains P.residues a) where
     pub part-zero : P.part 𝟘 a ≡ 𝟘
     part-zero = part_from 𝟘 (λ a. 𝟘) (sym from_parts-zero) a listed
 

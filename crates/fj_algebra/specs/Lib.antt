@@ -4,3 +4,4 @@ pub mod Power
 pub mod Ideal
 pub mod Frobenius
 pub mod Parts
+pub mod Root
