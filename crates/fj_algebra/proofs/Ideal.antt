@@ -1,5 +1,5 @@
 -- Ideals of lists: members, inclusion, equality, sums, products and ring maps.
-use Rattle.std.proofs.Common.{◌≡◌, ℕ, zero, suc, List, [], ◌∷◌, ◌++◌, map, length, get_or, All, Contains, refl, sym, ap, ap₂, ◌∙◌}
+use Rattle.std.proofs.Common.{◌≡◌, ℕ, zero, suc, List, [], ◌∷◌, ◌++◌, map, length, get_or, All, Contains, refl, sym, ap, ap₂, ◌∙◌, subst}
 use Rattle.std.proofs.lemmas.List.Elements.{All-nil, All-cons, All-head, All-tail, All-map, All-append, All-weaker, All-contains}
 use Rattle.fj_algebra.specs.Ring.{CommutativeRing, RingMap, subtract}
 use Rattle.fj_algebra.specs.Sum.{sum_over}
@@ -122,6 +122,14 @@ module _ {A : Type 0} {R : CommutativeRing A} where
   pub Member-sum_over : {X : Type 0} {L : List A} (f : X → A) (xs : List X) → All (λ x. Member R L (f x)) xs → Member R L (sum_over R f xs)
   Member-sum_over {L = L} f [] each = Member-zero L
   Member-sum_over {L = L} f (x ∷ xs) each = Member-add (All-head (λ x. Member R L (f x)) x xs each) (Member-sum_over f xs (All-tail (λ x. Member R L (f x)) x xs each))
+
+  -- What holds of the list's elements and is kept by sums and multiples holds of each member.
+  pub Member-induction : {L : List A} {h : A} (V : A → Type 0) → V 𝟘 → ((a b : A) → V a → V b → V (a ⊕ b)) → ((c a : A) → V a → V (c ⊗ a)) → All V L → Member R L h → V h
+  Member-induction {L} V none more times each H = subst V (sym H.is) (go L H.cofactors each)
+    where
+      go : (L : List A) (c : ℕ → A) → All V L → V (combination R c L)
+      go [] c each = none
+      go (g ∷ L) c each = more (c 0 ⊗ g) (combination R (λ j. c (suc j)) L) (times (c 0) g (All-head V g L each)) (go L (λ j. c (suc j)) (All-tail V g L each))
 
   -- A combination of members is a member.
   pub Member-combination : {M : List A} (c : ℕ → A) (L : List A) → All (Member R M) L → Member R M (combination R c L)

@@ -5,3 +5,5 @@ pub mod Ideal
 pub mod Frobenius
 pub mod Parts
 pub mod Root
+pub mod Colon
+pub mod Splitting
