@@ -316,3 +316,11 @@ Inside-RingMap {R} {S} {f} F {L} {M} I = record { each = All-map (Member S (map 
 
 pub Equal-RingMap : {A B : Type 0} {R : CommutativeRing A} {S : CommutativeRing B} {f : A → B} → RingMap R S f → {L M : List A} → Equal R L M → Equal S (map f L) (map f M)
 Equal-RingMap F E = record { forth = Inside-RingMap F E.forth; back = Inside-RingMap F E.back }
+
+-- Where a ring map sends each element of the list to zero, it sends each member to zero.
+pub Member-vanishes : {A B : Type 0} {R : CommutativeRing A} {S : CommutativeRing B} {f : A → B} → RingMap R S f → {L : List A} {h : A} → All (λ g. f g ≡ S.zero) L → Member R L h → f h ≡ S.zero
+Member-vanishes {R} {S} {f} F each H =
+    Member-induction (λ h. f h ≡ S.zero) F.keeps_zero
+    (λ a b x y. F.keeps_add a b ∙ ap₂ S.add x y ∙ S.add_zero S.zero)
+    (λ c a x. F.keeps_mul c a ∙ ap (S.mul (f c)) x ∙ mul_zero S (f c))
+    each H

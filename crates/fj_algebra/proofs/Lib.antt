@@ -8,3 +8,4 @@ pub mod Frobenius
 pub mod Parts
 pub mod Root
 pub mod Splitting
+pub mod Fedder

@@ -1,5 +1,5 @@
 -- What holds of each element of a list that is made of others.
-use Rattle.std.proofs.Common.{List, [], ◌∷◌, ◌++◌, map, flat_map, All}
+use Rattle.std.proofs.Common.{suc, ◌⊎◌, inl, inr, List, [], ◌∷◌, ◌++◌, map, flat_map, length, All, Any, Contains, refl, suc-le-suc, zero-lt-suc}
 use Rattle.std.proofs.lemmas.List.Elements.{All-nil, All-cons, All-head, All-tail, All-append}
 
 module _ {X : Type 0} (P : X → Type 0) where
@@ -22,3 +22,20 @@ module _ {X : Type 0} (P : X → Type 0) where
   pub All-flat_map_back : {Y : Type 0} (g : Y → List X) (ys : List Y) → All P (flat_map g ys) → All (λ y. All P (g y)) ys
   All-flat_map_back g [] each = All-nil (λ y. All P (g y))
   All-flat_map_back g (y ∷ ys) each = All-cons (λ y. All P (g y)) y ys (All-append_left (g y) (flat_map g ys) each) (All-flat_map_back g ys (All-append_right (g y) (flat_map g ys) each))
+
+  pub Any-head : (x : X) (xs : List X) → P x → Any P (x ∷ xs)
+  Any-head x xs h = (0, x, zero-lt-suc (length xs), refl, h)
+
+  pub Any-tail : (x : X) (xs : List X) → Any P xs → Any P (x ∷ xs)
+  Any-tail x xs h = (suc h.0, h.1, suc-le-suc h.2, h.3, h.4)
+
+  pub Any-element : (xs : List X) → Any P xs → (x : X) × Contains xs x × P x
+  Any-element xs h = (h.1, (h.0, h.2, h.3), h.4)
+
+-- What is decided of each element holds of all of them, or fails of one.
+pub Any-or-All : {X : Type 0} (P : X → Type 0) → ((x : X) → Dec (P x)) → (xs : List X) → Any (λ x. ¬ P x) xs ⊎ All P xs
+Any-or-All P decide [] = inr (All-nil P)
+Any-or-All P decide (x ∷ xs) = elim (decide x) [
+  | yes h ↦ elim (Any-or-All P decide xs) [ inl some ↦ inl (Any-tail (λ x. ¬ P x) x xs some) | inr each ↦ inr (All-cons P x xs h each) ]
+  | no h ↦ inl (Any-head (λ x. ¬ P x) x xs h)
+]
