@@ -5,3 +5,4 @@ pub mod Field
 pub mod FormalSum
 pub mod Polynomial
 pub mod Product
+pub mod PolynomialRing

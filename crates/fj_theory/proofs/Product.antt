@@ -65,13 +65,13 @@ unfolding coefficient
 entries_coefficients f k d h = ap (λ o. unwrap_or o 0) (get-entries f (get_or (entries f) k d).0 ∙ entries_found (entries f) (entries_sorted f) k d h)
 
 module _ {F : Field} (L : IsField F) where
-  abbrev K : CommutativeRing (Element F)
+  abbrev pub K : CommutativeRing (Element F)
   K = field_ring L
 
-  abbrev lift : List (List ℕ × ℕ) → FormalSum (Element F)
+  abbrev pub lift : List (List ℕ × ℕ) → FormalSum (Element F)
   lift es = map (λ e. (e.0, element L e.1)) es
 
-  -- The terms of a polynomial.
+  -- The terms of a polynomial, with coefficients in the ring K of the field.
   abbrev pub terms : Polynomial → FormalSum (Element F)
   terms f = lift (entries f)
 
