@@ -1,3 +1,11 @@
+pub mod Lists
 pub mod Ring
 pub mod Sum
 pub mod Power
+pub mod Ideal
+pub mod Colon
+pub mod Frobenius
+pub mod Parts
+pub mod Root
+pub mod Splitting
+pub mod Fedder

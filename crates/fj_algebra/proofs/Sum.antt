@@ -1,5 +1,6 @@
 -- Laws of sums over lists.
-use Rattle.std.proofs.Common.{◌≡◌, List, [], ◌∷◌, ◌++◌, map, flat_map, refl, sym, ap, ◌∙◌}
+use Rattle.std.proofs.Common.{◌≡◌, List, [], ◌∷◌, ◌++◌, map, flat_map, All, refl, sym, ap, ap₂, ◌∙◌}
+use Rattle.std.proofs.lemmas.List.Elements.{All-head, All-tail}
 use Rattle.fj_algebra.specs.Ring.{CommutativeRing, RingMap}
 use Rattle.fj_algebra.specs.Sum.{sum_over}
 use Rattle.fj_algebra.proofs.Ring.{zero_add, add_assoc, mul_add, mul_zero, add_mul, zero_mul, neg_sum, neg_zero, add_left_comm, sum_laws}
@@ -28,6 +29,10 @@ module _ {A X : Type 0} (R : CommutativeRing A) where
   pub sum_over-same : (f g : X → A) → ((x : X) → f x ≡ g x) → (xs : List X) → sum_over R f xs ≡ sum_over R g xs
   sum_over-same f g e [] = refl
   sum_over-same f g e (x ∷ xs) = ap (λ a. a ⊕ sum_over R f xs) (e x) ∙ ap (◌⊕◌ (g x)) (sum_over-same f g e xs)
+
+  pub sum_over-same_each : (f g : X → A) (xs : List X) → All (λ x. f x ≡ g x) xs → sum_over R f xs ≡ sum_over R g xs
+  sum_over-same_each f g [] e = refl
+  sum_over-same_each f g (x ∷ xs) e = ap₂ ◌⊕◌ (All-head (λ x. f x ≡ g x) x xs e) (sum_over-same_each f g xs (All-tail (λ x. f x ≡ g x) x xs e))
 
   pub sum_over-zero : (xs : List X) → sum_over R (λ x. 𝟘) xs ≡ 𝟘
   sum_over-zero [] = refl

@@ -2,3 +2,8 @@ pub mod Ring
 pub mod Sum
 pub mod Power
 pub mod Ideal
+pub mod Frobenius
+pub mod Parts
+pub mod Root
+pub mod Colon
+pub mod Splitting

@@ -38,6 +38,10 @@ term c a = with_coefficients (λ _. c) (a ∷ [])
 unfoldable pub sum : Field → Polynomial → Polynomial → Polynomial
 sum F f g = with_coefficients (λ a. F.add (coefficient f a) (coefficient g a)) (support f ++ support g)
 
+-- The polynomial with the opposite coefficients.
+unfoldable pub negation : Field → Polynomial → Polynomial
+negation F f = with_coefficients (λ a. F.neg (coefficient f a)) (support f)
+
 -- The sum in the field of the values of a function at the members of a list.
 unfoldable pub total_over : Field → (List ℕ → ℕ) → List (List ℕ) → ℕ
 total_over F c [] = 0
