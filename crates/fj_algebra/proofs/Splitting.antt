@@ -1,4 +1,4 @@
--- Fedder's criterion: maps that are linear over q-th powers, their values, F-purity and compatible ideals.
+-- The trace: each q^-1-linear map is the trace of multiples by one element. Compatible ideals.
 use Rattle.std.proofs.Common.{◌≡◌, ℕ, List, Contains, sym, ap, ◌∙◌}
 use Rattle.std.proofs.lemmas.List.Elements.{All-weaker, All-contains_itself}
 use Rattle.fj_algebra.specs.Ring.{CommutativeRing}
