@@ -1,5 +1,6 @@
 pub mod Lists
 pub mod Ring
+pub mod WideRing
 pub mod Sum
 pub mod Power
 pub mod Ideal
