@@ -6,3 +6,4 @@ pub mod FormalSum
 pub mod Polynomial
 pub mod Product
 pub mod PolynomialRing
+pub mod Terms
