@@ -7,3 +7,5 @@ pub mod Polynomial
 pub mod Product
 pub mod PolynomialRing
 pub mod Terms
+pub mod Monomial
+pub mod Frobenius

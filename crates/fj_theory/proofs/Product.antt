@@ -165,7 +165,7 @@ module _ {F : Field} (L : IsField F) where
   mul_cond false x y = sym (mul_zero (K L) x)
 
   -- One term's part of the coefficient of a product.
-  row_coefficient : {a b : List ℕ} (x : Element F) (fs : FormalSum (Element F)) → IsExponents a → IsExponents b → All (λ d. IsExponents d.0) fs
+  pub row_coefficient : {a b : List ℕ} (x : Element F) (fs : FormalSum (Element F)) → IsExponents a → IsExponents b → All (λ d. IsExponents d.0) fs
       → sum_over (K L) (λ d. at_exponents (K L) a (plus b d.0) ((K L).mul x d.1)) fs ≡ cond (divides b a) ((K L).mul x (coefficient_in (K L) fs (minus a b))) (K L).zero
   row_coefficient {a} {b} x fs A B all = by (divides b a) refl
     where

@@ -16,11 +16,11 @@ use Rattle.fj_theory.proofs.MonomialOrder.{compare_by_total, compare_by_exact}
 use Rattle.fj_theory.proofs.FormalSum.{same, same_true, same_itself, same_false}
 use Rattle.fj_theory.proofs.Product.{T_left, T_right, All_above, below_not_same, entries_get}
 
-abbrev Terms : Type 0
+abbrev pub Terms : Type 0
 Terms = List (List ℕ × ℕ)
 
 -- The coefficient that a list of terms has at an exponent list.
-abbrev look : List ℕ → Terms → Option ℕ
+abbrev pub look : List ℕ → Terms → Option ℕ
 look q ts = find (slice_cmp nat_cmp) q ts
 
 pub coefficient-from_entries : (ts : List (List ℕ × ℕ)) (a : List ℕ) → coefficient (from_entries ts) a ≡ unwrap_or (find (slice_cmp nat_cmp) a ts) 0
@@ -38,9 +38,9 @@ coefficient-from_entries_cons t ts a = coefficient-from_entries (t ∷ ts) a ∙
 abbrev AllExponents : Terms → Type 0
 AllExponents ts = All (λ t. IsExponents t.0) ts
 
-look_none : (q : List ℕ) (ts : Terms) → All (λ u. same q u.0 ≡ false) ts → look q ts ≡ None
-look_none q [] all = refl
-look_none q (u ∷ ts) all = ap (λ s. cond s (Some u.1) (look q ts)) (All-head (λ v. same q v.0 ≡ false) u ts all) ∙ look_none q ts (All-tail (λ v. same q v.0 ≡ false) u ts all)
+pub find_none : (q : List ℕ) (ts : Terms) → All (λ u. same q u.0 ≡ false) ts → look q ts ≡ None
+find_none q [] all = refl
+find_none q (u ∷ ts) all = ap (λ s. cond s (Some u.1) (look q ts)) (All-head (λ v. same q v.0 ≡ false) u ts all) ∙ find_none q ts (All-tail (λ v. same q v.0 ≡ false) u ts all)
 
 look_head : (t : List ℕ × ℕ) (ts : Terms) → look t.0 (t ∷ ts) ≡ Some t.1
 look_head t ts = ap (λ s. cond s (Some t.1) (look t.0 ts)) (same_itself t.0)
@@ -83,7 +83,7 @@ module _ (key : List ℕ → List ℕ) where
       (λ k d l. ap (λ s. cond s (Some t.1) (look (get_or ts k d).0 ts)) (greater_apart_back t.0 (get_or ts k d).0 (h.0 k d l)) ∙ rest k d l)
 
   look_beyond : (q : List ℕ) (ts : Terms) → All (λ u. compare_by key q u.0 ≡ Greater) ts → look q ts ≡ None
-  look_beyond q ts all = look_none q ts (All-weaker (λ u. compare_by key q u.0 ≡ Greater) (λ u. same q u.0 ≡ false) (λ u g. greater_apart q u.0 g) ts all)
+  look_beyond q ts all = find_none q ts (All-weaker (λ u. compare_by key q u.0 ≡ Greater) (λ u. same q u.0 ≡ false) (λ u g. greater_apart q u.0 g) ts all)
 
 -- What holds of each term holds of what is found.
 pub find_All : (P : List ℕ × ℕ → Type 0) (ts : List (List ℕ × ℕ)) (q : List ℕ) (c : ℕ) → All P ts → find (slice_cmp nat_cmp) q ts ≡ Some c → P (q, c)
@@ -97,11 +97,11 @@ find_All P (t ∷ ts) q c all e = by (same q t.0) refl (find_All P ts q c (All-t
     by false s later f = later f
 
 -- No two terms have the same exponent list.
-abbrev Apart : Terms → Type 0
+abbrev pub Apart : Terms → Type 0
 Apart [] = Unit {0}
 Apart (t ∷ ts) = All (λ u. same t.0 u.0 ≡ false) ts × Apart ts
 
-Apart-from_sorted : (ts : Terms) → T (is_sorted (slice_cmp nat_cmp) ts) → Apart ts
+pub Apart-from_sorted : (ts : Terms) → T (is_sorted (slice_cmp nat_cmp) ts) → Apart ts
 Apart-from_sorted [] h = tt
 Apart-from_sorted (t ∷ ts) h =
     (All-weaker (λ u. slice_cmp nat_cmp t.0 u.0 ≡ Less) (λ u. same t.0 u.0 ≡ false) (λ u l. below_not_same t.0 u.0 l) ts (All_above t.0 ts (T_left _ _ h)), Apart-from_sorted ts (T_right _ _ h))
