@@ -9,3 +9,4 @@ pub mod PolynomialRing
 pub mod Terms
 pub mod Monomial
 pub mod Frobenius
+pub mod Residues
