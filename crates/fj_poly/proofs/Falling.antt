@@ -7,7 +7,8 @@ use Rattle.std.specs.Cmp.{tied_itself}
 use Rattle.fj_coeff.specs.Field.{Field}
 use Rattle.fj_theory.specs.MonomialOrder.{compare_by, IsMonomialOrder}
 use Rattle.fj_theory.proofs.MonomialOrder.{compare_by_total}
-use Rattle.fj_poly.specs.Terms.{IsFalling, AreTerms}
+use Rattle.fj_theory.specs.Polynomial.{IsFalling}
+use Rattle.fj_poly.specs.Terms.{AreTerms}
 
 greater_back : (r s : Ordering) → r ≡ ordering_reverse s → s ≡ Greater → r ≡ Less
 greater_back r Less e h = cc

@@ -9,7 +9,8 @@ use Rattle.fj_theory.specs.Polynomial.{Polynomial, IsPolynomial, with_coefficien
 use Rattle.fj_theory.proofs.MonomialOrder.{compare_by_exact}
 use Rattle.fj_theory.proofs.Polynomial.{IsPolynomial-empty, IsPolynomial-sum, IsPolynomial-term}
 use Rattle.fj_theory.proofs.PolynomialRing.{sum_comm, sum_assoc, sum_empty}
-use Rattle.fj_poly.specs.Terms.{IsFalling, AreTerms}
+use Rattle.fj_theory.specs.Polynomial.{IsFalling}
+use Rattle.fj_poly.specs.Terms.{AreTerms}
 use Rattle.fj_poly.proofs.Falling.{above_from_below, falling-tail, falling-replace, falling-exponents, falling-without, falling-front, falling-back, terms-append}
 use Rattle.fj_poly.proofs.Polynomials.{polynomial_of, IsPolynomial-polynomial_of, sum-first, sum-append, polynomial_of-term, sum-terms}
 

@@ -1,21 +1,23 @@
 -- Polynomials from lists of terms: they are polynomials, and sums split over lists.
-use Rattle.std.proofs.Common.{◌≡◌, ℕ, zero, suc, ◌<◌, List, [], ◌∷◌, ◌++◌, length, refl, sym, ap, ap₂, ◌∙◌, subst, append_assoc, arith, cond, true, false, Bool, Option, Some, None, ◌==◌, unwrap_or, nat_cmp, inl, inr, ◌⊎◌, ⊎_elim}
+use Rattle.std.proofs.Common.{All, ◌≡◌, ℕ, zero, suc, ◌<◌, List, [], ◌∷◌, ◌++◌, length, refl, sym, ap, ap₂, ◌∙◌, subst, append_assoc, arith, cond, true, false, Bool, Option, Some, None, ◌==◌, unwrap_or, nat_cmp, inl, inr, ◌⊎◌, ⊎_elim}
 use Rattle.std.specs.FinMap.{FinMap, empty, insert, get, from_entries, find, get-from_entries, get-insert, get-empty, same_map}
 use Rattle.std.specs.Cmp.Lexicographic.{slice_cmp}
 use Rattle.std.specs.Ordering.{eq_by_cmp}
 use Rattle.std.proofs.lemmas.Cmp.{nat_list_cmp_total}
 use Rattle.std.proofs.lemmas.Map.Lookups.{exact_bytes}
 use Rattle.std.proofs.lemmas.Bool.{cond-false, ne_eqb}
-use Rattle.std.proofs.lemmas.Option.{none-some, same_Some}
+use Rattle.std.proofs.lemmas.List.Elements.{All-nil, All-cons}
 use Rattle.std.specs.declared.cmp.Ordering.TheVariants.{Less, Equal, Greater}
 use Rattle.fj_coeff.specs.Field.{Field, IsField}
 use Rattle.fj_theory.specs.Exponents.{IsExponents}
 use Rattle.fj_theory.specs.MonomialOrder.{compare_by, IsMonomialOrder}
-use Rattle.fj_theory.specs.Polynomial.{Polynomial, IsPolynomial, coefficient, with_coefficients, sum, term}
+use Rattle.fj_theory.specs.Polynomial.{Polynomial, IsPolynomial, IsTerm, coefficient, with_coefficients, sum, term}
 use Rattle.fj_theory.proofs.FormalSum.{same, same_true}
 use Rattle.fj_theory.proofs.Field.{zero_below}
 use Rattle.fj_theory.proofs.Polynomial.{polynomial_equal, coefficient_below, coefficient-get, coefficient-empty, coefficient-term, coefficient-sum, IsPolynomial-empty, IsPolynomial-sum, IsPolynomial-term}
-use Rattle.fj_poly.specs.Terms.{IsFalling, AreTerms}
+use Rattle.fj_theory.specs.Polynomial.{IsFalling}
+use Rattle.fj_poly.specs.Terms.{AreTerms}
+use Rattle.fj_theory.proofs.Terms.{coefficient-from_entries_cons, IsPolynomial-from_entries}
 use Rattle.fj_theory.proofs.PolynomialRing.{sum_comm, sum_assoc, sum_empty}
 use Rattle.fj_poly.proofs.Falling.{above_itself, falling-tail, falling-without, falling-front, terms-front, terms-back}
 
@@ -23,37 +25,19 @@ use Rattle.fj_poly.proofs.Falling.{above_itself, falling-tail, falling-without, 
 abbrev pub polynomial_of : List (List ℕ × ℕ) → Polynomial
 polynomial_of ts = from_entries {R = slice_cmp nat_cmp} ts
 
--- What is found in a list that begins with a term.
-pub coefficient-first : (t : List ℕ × ℕ) (ts : List (List ℕ × ℕ)) (a : List ℕ) → coefficient (polynomial_of (t ∷ ts)) a ≡ cond (same a t.0) t.1 (coefficient (polynomial_of ts) a)
-unfolding coefficient
-coefficient-first t ts a = ap (λ o. unwrap_or o 0) (get-insert nat_list_cmp_total (polynomial_of ts) t.0 t.1 a) ∙ by (same a t.0)
-  where
-    by : (b : Bool) → unwrap_or (cond b (Some t.1) (get (polynomial_of ts) a)) 0 ≡ cond b t.1 (unwrap_or (get (polynomial_of ts) a) 0)
-    by true = refl
-    by false = refl
+-- The terms of a list, one by one.
+pub each_term : {F : Field} (ts : List (List ℕ × ℕ)) → AreTerms F ts → All (IsTerm F) ts
+each_term {F} [] h = All-nil (IsTerm F)
+each_term {F} (t ∷ ts) h = All-cons (IsTerm F) t ts (record { exponents = record { eight = h.0.0 }; nonzero = h.0.1; below = h.0.2 }) (each_term ts h.1)
 
-found_term : (t : List ℕ × ℕ) (m : Polynomial) (a : List ℕ) (c : ℕ) (b : Bool) → same a t.0 ≡ b → cond b (Some t.1) (get m a) ≡ Some c → ((a ≡ t.0) × (c ≡ t.1)) ⊎ (get m a ≡ Some c)
-found_term t m a c true e h = inl (same_true a t.0 e, sym (same_Some t.1 c h))
-found_term t m a c false e h = inr h
-
-module _ {F : Field} where
-  -- A list of terms gives a polynomial.
-  pub IsPolynomial-polynomial_of : (ts : List (List ℕ × ℕ)) → AreTerms F ts → IsPolynomial F (polynomial_of ts)
-  IsPolynomial-polynomial_of [] h = IsPolynomial-empty F
-  IsPolynomial-polynomial_of (t ∷ ts) h =
-      let rest : IsPolynomial F (polynomial_of ts) = IsPolynomial-polynomial_of ts h.1 in
-      let cases : (a : List ℕ) (c : ℕ) → get (polynomial_of (t ∷ ts)) a ≡ Some c → ((a ≡ t.0) × (c ≡ t.1)) ⊎ (get (polynomial_of ts) a ≡ Some c) =
-      λ a c e. found_term t (polynomial_of ts) a c (same a t.0) refl (sym (get-insert nat_list_cmp_total (polynomial_of ts) t.0 t.1 a) ∙ e) in
-      record {
-        exponents = λ a c e. ⊎_elim (λ here. record { eight = ap length here.0 ∙ h.0.0 }) (λ there. rest.exponents a c there) (cases a c e);
-        nonzero = λ a c e. ⊎_elim (λ here. subst (λ k. 0 < k) (sym here.1) h.0.1) (λ there. rest.nonzero a c there) (cases a c e);
-        below = λ a c e. ⊎_elim (λ here. subst (λ k. k < F.size) (sym here.1) h.0.2) (λ there. rest.below a c there) (cases a c e);
-      }
+-- A list of terms gives a polynomial.
+pub IsPolynomial-polynomial_of : {F : Field} (ts : List (List ℕ × ℕ)) → AreTerms F ts → IsPolynomial F (polynomial_of ts)
+IsPolynomial-polynomial_of ts h = IsPolynomial-from_entries ts (each_term ts h)
 
 -- No later term has the exponents of the first.
 pub coefficient-later : (key : List ℕ → List ℕ) (s : List ℕ × ℕ) (ts : List (List ℕ × ℕ)) → IsFalling key (s ∷ ts) → coefficient (polynomial_of ts) s.0 ≡ 0
 coefficient-later key s [] h = coefficient-empty s.0
-coefficient-later key s (t ∷ ts) h = coefficient-first t ts s.0 ∙ by (same s.0 t.0) refl (coefficient-later key s ts (falling-without key (s ∷ []) t ts h))
+coefficient-later key s (t ∷ ts) h = coefficient-from_entries_cons t ts s.0 ∙ by (same s.0 t.0) refl (coefficient-later key s ts (falling-without key (s ∷ []) t ts h))
   where
     by : (b : Bool) → same s.0 t.0 ≡ b → coefficient (polynomial_of ts) s.0 ≡ 0 → cond b t.1 (coefficient (polynomial_of ts) s.0) ≡ 0
     by true e later = absurd (above_itself key s.0 t.0 (same_true s.0 t.0 e) h.0)
@@ -70,7 +54,7 @@ module _ {F : Field} (L : IsField F) where
       let one : IsPolynomial F (polynomial_of (t ∷ [])) = IsPolynomial-polynomial_of (t ∷ []) (terms.0, tt) in
       let rest : IsPolynomial F (polynomial_of ts) = IsPolynomial-polynomial_of ts terms.1 in
       polynomial_equal (IsPolynomial-polynomial_of (t ∷ ts) terms) (IsPolynomial-sum L one rest)
-      (λ a A. coefficient-first t ts a ∙ by a (same a t.0) refl ∙ sym (coefficient-sum L (polynomial_of (t ∷ [])) (polynomial_of ts) a ∙ ap (λ c. F.add c (coefficient (polynomial_of ts) a)) (coefficient-first t [] a)))
+      (λ a A. coefficient-from_entries_cons t ts a ∙ by a (same a t.0) refl ∙ sym (coefficient-sum L (polynomial_of (t ∷ [])) (polynomial_of ts) a ∙ ap (λ c. F.add c (coefficient (polynomial_of ts) a)) (coefficient-from_entries_cons t [] a)))
     where
       by : (a : List ℕ) (b : Bool) → same a t.0 ≡ b → cond b t.1 (coefficient (polynomial_of ts) a) ≡ F.add (cond b t.1 (coefficient (polynomial_of []) a)) (coefficient (polynomial_of ts) a)
       by a true e = sym (ap (λ c. F.add t.1 c) (ap (coefficient (polynomial_of ts)) (same_true a t.0 e) ∙ coefficient-later key t ts falling) ∙ L.add_zero t.1 terms.0.2)

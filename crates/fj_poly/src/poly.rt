@@ -30,8 +30,8 @@ impl<K: Coeff, O: Order> Model for Poly<K, O> {
     ghost use Rattle.std.specs.Prelude.{ℕ};
     ghost use Rattle.std.specs.Coded.{coded_ℕ, coded_list};
     ghost use Rattle.std.specs.FinMap.{code, from_entries};
-    ghost use Rattle.fj_theory.specs.Polynomial.{Polynomial};
-    ghost use Rattle.fj_poly.specs.Terms.{IsFalling, AreTerms, entries};
+    ghost use Rattle.fj_theory.specs.Polynomial.{Polynomial, IsFalling};
+    ghost use Rattle.fj_poly.specs.Terms.{AreTerms, entries};
 
     ghost Value = { Polynomial };
 

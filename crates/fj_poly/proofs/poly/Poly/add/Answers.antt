@@ -2,7 +2,7 @@ use Rattle.std.proofs.Common.{◌≡◌, ◌<◌, ℕ, List, [], ◌∷◌, ◌+
 use Rattle.std.proofs.lemmas.List.{map-append, map_push, nil_from_length}
 use Rattle.fj_theory.specs.Polynomial.{IsPolynomial, sum}
 use Rattle.fj_theory.proofs.MonomialOrder.{compare_by_exact}
-use Rattle.fj_poly.specs.Terms.{IsFalling, AreTerms, entry, entries}
+use Rattle.fj_poly.specs.Terms.{entry, entries}
 use Rattle.fj_poly.proofs.Coefficients.{positive_rank, zero_rank}
 use Rattle.fj_poly.proofs.Falling.{above_from_below}
 use Rattle.fj_poly.proofs.Polynomials.{IsPolynomial-polynomial_of}
