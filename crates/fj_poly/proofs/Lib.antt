@@ -1,4 +1,5 @@
 pub mod Falling
 pub mod Polynomials
 pub mod Merge
+pub mod View
 pub mod Coefficients

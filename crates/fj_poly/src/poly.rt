@@ -1,6 +1,7 @@
-ghost use Rattle.std.specs.Prelude.{◌≡◌, ◌<◌, ◌↔◌, ℕ, List, map, IfOk, IsTrue, MatchOption, Option};
+ghost use Rattle.std.specs.Prelude.{◌≡◌, ◌<◌, ◌↔◌, IfOk, IsTrue, slice_get};
+ghost use Rattle.std.specs.Option.{option_map};
 ghost use Rattle.std.specs.FinMap.{empty, len};
-ghost use Rattle.fj_theory.specs.Polynomial.{coefficient, sum, term};
+ghost use Rattle.fj_theory.specs.Polynomial.{coefficient, degree, lead, sum, term, terms_falling};
 
 use fj_coeff::Coeff;
 use fj_mono::{Grevlex, Mono, Order};
@@ -9,7 +10,7 @@ use std::cmp::Ordering;
 use std::marker::{Model, PhantomData};
 
 /// A term: a nonzero coefficient times a monomial.
-#[derive(Clone, Copy)]
+#[derive(Clone, Copy, PartialEq, Eq)]
 struct Term<K: Coeff> {
     coefficient: K,
     monomial: Mono,
@@ -110,6 +111,23 @@ impl<K: Coeff, O: Order> Poly<K, O> {
         })
     }
 
+    /// The lead: the coefficient and the monomial of the greatest term in O. `None` exactly for zero.
+    pub fn lead(&self) -> Option<(K, Mono)>
+        ensures { option_map (λ found. (found.1.exponents, K.rank found.0)) result ≡ lead O.key self.now }
+    {
+        self.terms.first().map(|t| (t.coefficient, t.monomial))
+    }
+
+    /// The coefficient at m, zero where there is no such term.
+    pub fn coeff(&self, m: &Mono) -> K
+        ensures { K.rank result ≡ coefficient self.now m.now.exponents }
+    {
+        match self.terms.binary_search_by(|t| O::cmp(m, &t.monomial)) {
+            Ok(i) => self.terms[i].coefficient,
+            Err(_) => K::zero(),
+        }
+    }
+
     /// Whether the polynomial is zero.
     pub fn is_zero(&self) -> bool
         ensures { IsTrue result ↔ (self.now ≡ empty) }
@@ -117,10 +135,33 @@ impl<K: Coeff, O: Order> Poly<K, O> {
         self.terms.is_empty()
     }
 
+    /// The total degree, in eight variables. `None` exactly for zero.
+    pub fn degree(&self) -> Option<u64>
+        ensures { result ≡ degree self.now }
+    {
+        self.terms.iter().map(|t| t.monomial.total()).max()
+    }
+
+    /// Whether the two polynomials are equal.
+    pub fn same(&self, o: &Poly<K, O>) -> bool
+        ensures { IsTrue result ↔ (self.now ≡ o.now) }
+    {
+        self.terms == o.terms
+    }
+
     /// The number of terms.
     pub fn len(&self) -> usize
         ensures { result ≡ len self.now }
     {
         self.terms.len()
+    }
+
+    /// The coefficient and the monomial of the term at place i, counted from 0, the terms falling in O.
+    pub fn at(&self, i: usize) -> (K, Mono)
+        requires { i < len self.now }
+        ensures { slice_get (terms_falling O.key self.now) i ≡ Some (result.1.exponents, K.rank result.0) }
+    {
+        let t = &self.terms[i];
+        (t.coefficient, t.monomial)
     }
 }

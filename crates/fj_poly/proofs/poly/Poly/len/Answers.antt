@@ -1,0 +1,13 @@
+use Rattle.std.proofs.Common.{◌≡◌, ◌<◌, ◌≤◌, ℕ, List, [], ◌∷◌, length, get_or, map, refl, sym, ap, ◌∙◌, subst, arith, inl, inr}
+use Rattle.std.proofs.lemmas.List.{length-map, nil_from_length}
+use Rattle.fj_theory.specs.Polynomial.{Polynomial}
+use Rattle.fj_poly.specs.Terms.{entry, entries}
+use Rattle.fj_poly.proofs.View.{terms_falling-polynomial_of, len-polynomial_of, slice_get-map_at, polynomial_of-empty}
+use Rattle.fj_poly.proofs.Polynomials.{polynomial_of, polynomial_of-term}
+use Rattle.fj_poly.proofs.poly.Poly.len.Goals as goal
+
+pub returns : goal.returns
+returns g c =
+    rw (← c.self.view_is)
+    (c.len.ensures ∙ c.self.inside.terms.ok.0 ∙ sym (length-map (entry g.K.Coeff.rank) c.self.inside.terms.items)
+    ∙ sym (len-polynomial_of g.met.O.Order.monomial_order g.K.Coeff.field _ c.self.invariant.0 c.self.invariant.1))
