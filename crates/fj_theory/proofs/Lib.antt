@@ -11,3 +11,4 @@ pub mod Monomial
 pub mod Frobenius
 pub mod Residues
 pub mod Roots
+pub mod Parts
