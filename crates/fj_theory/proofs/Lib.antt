@@ -12,3 +12,4 @@ pub mod Frobenius
 pub mod Residues
 pub mod Roots
 pub mod Parts
+pub mod PartsList
