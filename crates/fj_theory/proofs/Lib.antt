@@ -10,3 +10,6 @@ pub mod Terms
 pub mod Monomial
 pub mod Frobenius
 pub mod Residues
+pub mod Roots
+pub mod Parts
+pub mod PartsList
