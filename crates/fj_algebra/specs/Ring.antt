@@ -16,3 +16,14 @@ pub record CommutativeRing (A : Type 0) : Type 0 where
   pub mul_comm : (x y : A) → mul x y ≡ mul y x
   pub mul_one : (x : A) → mul x one ≡ x
   pub mul_add : (x y z : A) → mul x (add y z) ≡ add (mul x y) (mul x z)
+
+-- The difference x - y.
+abbrev pub subtract : {A : Type 0} → CommutativeRing A → A → A → A
+subtract R x y = R.add x (R.neg y)
+
+-- A homomorphism of rings with one (Atiyah and Macdonald 1969, chapter 1).
+pub record RingMap {A B : Type 0} (R : CommutativeRing A) (S : CommutativeRing B) (f : A → B) : Type 0 where
+  pub keeps_zero : f R.zero ≡ S.zero
+  pub keeps_one : f R.one ≡ S.one
+  pub keeps_add : (x y : A) → f (R.add x y) ≡ S.add (f x) (f y)
+  pub keeps_mul : (x y : A) → f (R.mul x y) ≡ S.mul (f x) (f y)
