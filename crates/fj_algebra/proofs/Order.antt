@@ -66,6 +66,18 @@ key_induction (suc n) P step (x ∷ xs) e =
     pick x before xs lower [] e l = absurd (omega arith)
     pick x before xs lower (y ∷ ys) e l = by_number (λ r. ordering_then r (slice_cmp nat_cmp ys xs) ≡ Less → P (y ∷ ys)) y x (λ h _. before y h ys (omega arith)) (λ h less. subst (λ y. P (y ∷ ys)) (sym h) (lower ys (omega arith) less)) (λ h g. absurd cc) l
 
+pub one_times : {M : Type 0} (monomials : Monomials M) (a : M) → monomials.times monomials.one a ≡ a
+one_times monomials a = monomials.times_comm monomials.one a ∙ monomials.times_one a
+
+pub times_left_comm : {M : Type 0} (monomials : Monomials M) (a b c : M) → monomials.times a (monomials.times b c) ≡ monomials.times b (monomials.times a c)
+times_left_comm monomials a b c = sym (monomials.times_assoc a b c) ∙ ap (λ d. monomials.times d c) (monomials.times_comm a b) ∙ monomials.times_assoc b a c
+
+pub Divides-refl : {M : Type 0} (monomials : Monomials M) (a : M) → Divides monomials a a
+Divides-refl monomials a = record { quotient = monomials.one; product = monomials.times_one a }
+
+pub Divides-trans : {M : Type 0} {monomials : Monomials M} {a b c : M} → Divides monomials a b → Divides monomials b c → Divides monomials a c
+Divides-trans {monomials} {a} d e = record { quotient = monomials.times d.quotient e.quotient; product = sym (monomials.times_assoc a d.quotient e.quotient) ∙ ap (λ b. monomials.times b e.quotient) d.product ∙ e.product }
+
 module _ {M : Type 0} {monomials : Monomials M} (order : MonomialOrder monomials) where
   open monomials use {one, times}
 
@@ -109,3 +121,16 @@ module _ {M : Type 0} {monomials : Monomials M} (order : MonomialOrder monomials
   -- The monomial one is the least.
   pub one_least : (a : M) → IsBelow order a one → ⊥
   one_least = order_induction (λ a. IsBelow order a one → ⊥) (λ a lower h. let l = rw monomials.times_one at (below_times a h) in lower (times a a) l (below_trans l h))
+
+  -- A multiple isn't below.
+  pub not_below_multiple : {a b : M} → Divides monomials a b → IsBelow order b a → ⊥
+  not_below_multiple {a} {b} d l = one_least d.quotient (under d.quotient (trichotomy d.quotient one) (subst (λ c. IsBelow order c (times a one)) (sym d.product) (subst (IsBelow order b) (sym (monomials.times_one a)) l)))
+    where
+      under : (q : M) → IsBelow order q one ⊎ ((q ≡ one) ⊎ IsBelow order one q) → IsBelow order (times a q) (times a one) → IsBelow order q one
+      under q (inl h) k = h
+      under q (inr (inl e)) k = absurd (below_irrefl (subst (λ q. IsBelow order (times a q) (times a one)) e k))
+      under q (inr (inr h)) k = absurd (below_irrefl (below_trans k (below_times a h)))
+
+  -- Monomials that divide each other are equal.
+  pub divides_antisymm : {a b : M} → Divides monomials a b → Divides monomials b a → a ≡ b
+  divides_antisymm {a} {b} d e = elim (trichotomy a b) [ inl l ↦ absurd (not_below_multiple e l) | inr (inl h) ↦ h | inr (inr l) ↦ absurd (not_below_multiple d l) ]

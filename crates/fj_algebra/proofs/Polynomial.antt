@@ -4,7 +4,7 @@ use Rattle.fj_algebra.specs.Ring.{CommutativeRing, subtract}
 use Rattle.fj_algebra.specs.Order.{Monomials, Divides, MonomialOrder, IsBelow}
 use Rattle.fj_algebra.specs.Polynomial.{Field, PolynomialRing, OrderedPolynomials, IsLead, IsMonic, Supported}
 use Rattle.fj_algebra.proofs.Ring.{ring_laws, zero_mul, mul_zero, one_mul, add_cancel_left, neg_unique, zero_add, add_zero, mul_comm}
-use Rattle.fj_algebra.proofs.Order.{order_induction, trichotomy, below_trans, below_irrefl, below_times, times_cancel, one_least}
+use Rattle.fj_algebra.proofs.Order.{order_induction, trichotomy, below_trans, below_irrefl, below_times, times_cancel, one_least, one_times}
 
 -- The product of elements of a field that are not zero is not zero.
 pub mul_nonzero : {K : Type 0} (F : Field K) (c d : K) → c ≢ F.ring.zero → d ≢ F.ring.zero → F.ring.mul c d ≢ F.ring.zero
@@ -15,7 +15,7 @@ mul_nonzero F c d nc nd e =
     regroup : {K : Type 0} (R : CommutativeRing K) (c i d : K) → R.mul (R.mul c i) d ≡ R.mul i (R.mul c d)
     regroup R c i d = simp ring_laws
 
-subtract_zero : {K : Type 0} (R : CommutativeRing K) (c : K) → subtract R c R.zero ≡ c
+pub subtract_zero : {K : Type 0} (R : CommutativeRing K) (c : K) → subtract R c R.zero ≡ c
 subtract_zero R c = simp (subtract, ring_laws)
 
 -- an element of a list is its head or in its tail
@@ -94,11 +94,8 @@ module _ {K M A : Type 0} (P : OrderedPolynomials K M A) where
       go e (yes (q, h)) = rw (← h) (inner q (same_monomial b q))
       go e (no none) = P.coefficient_no_multiple c a (term d b) e (λ h. none (h.quotient, h.product)) ∙ sym (P.coefficient_other (scalars.mul c d) (times a b) e (λ h. none (b, h)))
 
-  one_times : (b : M) → times one b ≡ b
-  one_times b = P.monomials.times_comm one b ∙ P.monomials.times_one b
-
   pub term_one : term scalars.one one ≡ 𝟙
-  term_one = P.equal (term scalars.one one) 𝟙 (λ b. rw (← P.ring.mul_one (term scalars.one one)) (subst (λ e. coefficient (mul (term scalars.one one) 𝟙) e ≡ coefficient 𝟙 b) (one_times b) (P.coefficient_multiple scalars.one one 𝟙 b ∙ one_mul scalars (coefficient 𝟙 b))))
+  term_one = P.equal (term scalars.one one) 𝟙 (λ b. rw (← P.ring.mul_one (term scalars.one one)) (subst (λ e. coefficient (mul (term scalars.one one) 𝟙) e ≡ coefficient 𝟙 b) (one_times P.monomials b) (P.coefficient_multiple scalars.one one 𝟙 b ∙ one_mul scalars (coefficient 𝟙 b))))
 
   -- Terms of one coefficient multiply as monomials.
   pub monic_term_mul : (a b : M) → mul (term scalars.one a) (term scalars.one b) ≡ term scalars.one (times a b)
@@ -106,7 +103,7 @@ module _ {K M A : Type 0} (P : OrderedPolynomials K M A) where
 
   -- A constant times a monomial.
   pub term_split : (c : K) (a : M) → term c a ≡ mul (term c one) (term scalars.one a)
-  term_split c a = sym (term_mul c scalars.one one a ∙ rw (one_times a, scalars.mul_one c))
+  term_split c a = sym (term_mul c scalars.one one a ∙ rw (one_times P.monomials a, scalars.mul_one c))
 
   pub Supported-term : {B : M → Type 0} (c : K) (a : M) → B a → Supported P.polynomials B (term c a)
   Supported-term {B} c a h = record { within = λ b n. go b n (same_monomial a b) }

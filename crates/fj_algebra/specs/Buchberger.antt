@@ -1,0 +1,36 @@
+-- Gröbner bases by Buchberger's criterion.
+use Rattle.std.specs.Prelude.{◌≡◌, ◌≢◌, List, Contains}
+use Rattle.fj_algebra.specs.Ring.{subtract}
+use Rattle.fj_algebra.specs.Order.{Divides, IsBelow}
+use Rattle.fj_algebra.specs.Polynomial.{OrderedPolynomials, IsLead, IsMonic}
+use Rattle.fj_algebra.specs.Representation.{Representation}
+use Rattle.fj_algebra.specs.Ideal.{Member}
+
+-- Each member of S is monic.
+pub record AllMonic {K M A : Type 0} (P : OrderedPolynomials K M A) (S : A → Type 0) : Type 0 where
+  pub lead : (g : A) → S g → (a : M) × IsMonic P g a
+
+-- The pair of g and h is settled by S: at each common multiple of their leads the difference of the two multiples with
+-- this lead is represented by multiples of members of S with heights below it (an lcm representation, Cox, Little, O'Shea
+-- 2015, chapter 2, section 9).
+pub record Settled {K M A : Type 0} (P : OrderedPolynomials K M A) (S : A → Type 0) (g h : A) : Type 0 where
+  pub below : (m n a b : M) → IsLead P g a → IsLead P h b → P.monomials.times m a ≡ P.monomials.times n b
+    → Representation P S (λ e. IsBelow P.order e (P.monomials.times m a)) (subtract P.ring (P.ring.mul (P.term P.field.ring.one m) g) (P.ring.mul (P.term P.field.ring.one n) h))
+
+-- The monomial a is divided by the lead of a member of S.
+pub record IsReducible {K M A : Type 0} (P : OrderedPolynomials K M A) (S : A → Type 0) (a : M) : Type 0 where
+  pub divisor : A
+  pub member : S divisor
+  pub lead : M
+  pub is_lead : IsLead P divisor lead
+  pub divides : Divides P.monomials lead a
+
+-- f has a lead that the lead of a member of S divides.
+pub record LeadIsReducible {K M A : Type 0} (P : OrderedPolynomials K M A) (S : A → Type 0) (f : A) : Type 0 where
+  pub lead : M
+  pub is_lead : IsLead P f lead
+  pub reducible : IsReducible P S lead
+
+-- The lead of each nonzero member of the ideal (L) is divided by the lead of a member of S.
+pub record CoversLeads {K M A : Type 0} (P : OrderedPolynomials K M A) (L : List A) (S : A → Type 0) : Type 0 where
+  pub covers : (h : A) → Member P.ring L h → h ≢ P.ring.zero → LeadIsReducible P S h
