@@ -1,5 +1,5 @@
 -- Laws of commutative rings, and sets of them for `simp`.
-use Rattle.std.proofs.Common.{◌≡◌, refl, sym, ap, ◌∙◌}
+use Rattle.std.proofs.Common.{◌≡◌, refl, sym, ap, ◌∙◌, subst}
 use Rattle.fj_algebra.specs.Ring.{CommutativeRing, RingMap, subtract}
 
 module _ {A : Type 0} (R : CommutativeRing A) where
@@ -165,3 +165,6 @@ RingMap-compose {f} {g} F G = record {
   keeps_add = λ x y. ap g (F.keeps_add x y) ∙ G.keeps_add (f x) (f y);
   keeps_mul = λ x y. ap g (F.keeps_mul x y) ∙ G.keeps_mul (f x) (f y);
 }
+
+pub RingMap-same : {A B : Type 0} {R : CommutativeRing A} {S : CommutativeRing B} {f g : A → B} → ((x : A) → f x ≡ g x) → RingMap R S f → RingMap R S g
+RingMap-same {R} {S} e F = subst (RingMap R S) (λ i x. e x i) F

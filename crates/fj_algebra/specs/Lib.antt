@@ -1,4 +1,5 @@
 pub mod Buchberger
+pub mod Frobenius
 pub mod Ideal
 pub mod Order
 pub mod Polynomial
