@@ -1,14 +1,14 @@
 -- Buchberger's criterion: where all pairs are settled, the leads of S divide the leads of all members of its ideal.
-use Rattle.std.proofs.Common.{◌≡◌, ◌≢◌, ℕ, zero, suc, ◌<◌, List, [], ◌∷◌, length, Contains, ◌⊎◌, inl, inr, refl, sym, ap, ◌∙◌, subst, arith}
+use Rattle.std.proofs.Common.{◌≡◌, ◌≢◌, ◌⊎◌, inl, inr, sym, ap, ◌∙◌, subst}
 use Rattle.fj_algebra.specs.Ring.{CommutativeRing, subtract}
-use Rattle.fj_algebra.specs.Order.{Divides, IsBelow, IsLeastCommonMultiple}
+use Rattle.fj_algebra.specs.Order.{IsBelow}
 use Rattle.fj_algebra.specs.Polynomial.{OrderedPolynomials, IsLead, IsMonic, Supported}
 use Rattle.fj_algebra.specs.Representation.{Representation, nothing, more}
-use Rattle.fj_algebra.specs.Buchberger.{AllMonic, Settled, IsReducible, LeadIsReducible}
-use Rattle.fj_algebra.proofs.Ring.{ring_laws, zero_mul, mul_zero, one_mul, add_zero, zero_add, add_mul}
+use Rattle.fj_algebra.specs.Buchberger.{AllMonic, Settled, LeadIsReducible}
+use Rattle.fj_algebra.proofs.Ring.{ring_laws, zero_mul, add_zero, zero_add, add_mul}
 use Rattle.fj_algebra.proofs.Order.{trichotomy, below_trans, below_irrefl, below_times, order_induction}
-use Rattle.fj_algebra.proofs.Polynomial.{Supported-zero, Supported-add, Supported-multiple, Supported-weaker, coefficient_outside, term_add, term_zero, term_mul, term_split, subtract_zero, lead_from_monic, lead_unique}
-use Rattle.fj_algebra.proofs.Representation.{Representation-weaker, Representation-same, Representation-add, Representation-neg, Representation-scale}
+use Rattle.fj_algebra.proofs.Polynomial.{Supported-zero, Supported-add, Supported-multiple, coefficient_outside, term_add, term_zero, term_split, subtract_zero, lead_from_monic, lead_unique}
+use Rattle.fj_algebra.proofs.Representation.{Representation-weaker, Representation-same, Representation-add, Representation-scale}
 
 module _ {A : Type 0} (R : CommutativeRing A) where
   open R use {add, mul, neg}
@@ -84,8 +84,17 @@ module _ {K M A : Type 0} (P : OrderedPolynomials K M A) where
       where
         lower : (a : M) → IsMonic P g a → IsBelow order (times m a) d → Representation P S (λ e. IsBelow order e d) rest ⊎ HasTop S d rest → Representation P S (λ e. IsBelow order e d) h ⊎ HasTop S d h
         lower a is l (inl t) = inl (more c m g s (λ b k. subst (λ b. IsBelow order (times m b) d) (lead_unique P (lead_from_monic P is) k) l) t e)
-        lower a is l (inr t) = inr (record { scalar = t.scalar; scalar_nonzero = t.scalar_nonzero; monomial = t.monomial; member = t.member; is_member = t.is_member; lead = t.lead; is_monic = t.is_monic; height = t.height;
-          rest = more c m g s (λ b k. subst (λ b. IsBelow order (times m b) d) (lead_unique P (lead_from_monic P is) k) l) t.rest (take_from P.ring h (mul (term c m) g) rest (mul (term t.scalar t.monomial) t.member) e) })
+        lower a is l (inr t) = inr (record {
+          scalar = t.scalar;
+          scalar_nonzero = t.scalar_nonzero;
+          monomial = t.monomial;
+          member = t.member;
+          is_member = t.is_member;
+          lead = t.lead;
+          is_monic = t.is_monic;
+          height = t.height;
+          rest = more c m g s (λ b k. subst (λ b. IsBelow order (times m b) d) (lead_unique P (lead_from_monic P is) k) l) t.rest (take_from P.ring h (mul (term c m) g) rest (mul (term t.scalar t.monomial) t.member) e);
+        })
 
         single : (a : M) → IsMonic P g a → times m a ≡ d → Representation P S (λ e. IsBelow order e d) rest → Dec (c ≡ scalars.zero) → Representation P S (λ e. IsBelow order e d) h ⊎ HasTop S d h
         single a is l t (yes z) = inl (Representation-same P (e ∙ ap (λ u. add (mul u g) rest) (ap (λ c. term c m) z ∙ term_zero P m) ∙ ap (λ u. add u rest) (zero_mul P.ring g) ∙ zero_add P.ring rest) t)
@@ -102,8 +111,8 @@ module _ {K M A : Type 0} (P : OrderedPolynomials K M A) where
 
             together : Representation P S (λ e. IsBelow order e d) (subtract P.ring h (mul (term (scalars.add c t.scalar) t.monomial) t.member))
             together = Representation-same P
-              (ap (subtract P.ring h) (joined c t.scalar t.monomial t.member) ∙ two_tops P.ring h rest (term c one) (mul (term scalars.one m) g) (mul (term scalars.one t.monomial) t.member) (mul (term t.scalar t.monomial) t.member) (e ∙ ap (λ u. add u rest) (scaled c m g)))
-              (Representation-add P (Representation-scale P c settled_at) t.rest)
+                (ap (subtract P.ring h) (joined c t.scalar t.monomial t.member) ∙ two_tops P.ring h rest (term c one) (mul (term scalars.one m) g) (mul (term scalars.one t.monomial) t.member) (mul (term t.scalar t.monomial) t.member) (e ∙ ap (λ u. add u rest) (scaled c m g)))
+                (Representation-add P (Representation-scale P c settled_at) t.rest)
 
             vanish : (c : K) → c ≡ scalars.zero → subtract P.ring h (mul (term c t.monomial) t.member) ≡ h
             vanish c e = ap (λ c. subtract P.ring h (mul (term c t.monomial) t.member)) e ∙ ap (λ u. subtract P.ring h (mul u t.member)) (term_zero P t.monomial) ∙ ap (subtract P.ring h) (zero_mul P.ring t.member) ∙ subtract_zero P.ring h
@@ -133,7 +142,7 @@ module _ {K M A : Type 0} (P : OrderedPolynomials K M A) where
         is_lead : IsLead P h d
         is_lead = record {
           nonzero = λ z. t.scalar_nonzero (sym (at d ∙ rw (first_at, rest_vanishes d (below_irrefl order)) (add_zero scalars t.scalar)) ∙ z);
-          top = λ b l. at b ∙ rw (first_above b l, rest_vanishes b (λ k. below_irrefl order (below_trans order k l))) (add_zero scalars scalars.zero)
+          top = λ b l. at b ∙ rw (first_above b l, rest_vanishes b (λ k. below_irrefl order (below_trans order k l))) (add_zero scalars scalars.zero);
         }
 
     -- the greatest height
@@ -144,10 +153,10 @@ module _ {K M A : Type 0} (P : OrderedPolynomials K M A) where
         go : (a : M) × IsMonic P g a → (rest ≡ 𝟘) ⊎ ((d : M) × B d × Representation P S (λ e. IsAtMost e d) rest) → (h ≡ 𝟘) ⊎ ((d : M) × B d × Representation P S (λ e. IsAtMost e d) h)
         go (a, is) (inl z) = inr (times m a, b a (lead_from_monic P is), more c m g s (λ b k. inr (ap (times m) (lead_unique P k (lead_from_monic P is)))) (nothing z) e)
         go (a, is) (inr (d, w, t)) = elim (trichotomy order (times m a) d) [
-            inl l ↦ inr (d, w, more c m g s (λ b k. inl (subst (λ b. IsBelow order (times m b) d) (lead_unique P (lead_from_monic P is) k) l)) t e)
-            | inr (inl l) ↦ inr (d, w, more c m g s (λ b k. inr (ap (times m) (lead_unique P k (lead_from_monic P is)) ∙ l)) t e)
-            | inr (inr l) ↦ inr (times m a, b a (lead_from_monic P is), more c m g s (λ b k. inr (ap (times m) (lead_unique P k (lead_from_monic P is)))) (Representation-weaker P (λ g s. s) (λ e k. at_most_trans e d (times m a) k (inl l)) t) e)
-          ]
+          | inl l ↦ inr (d, w, more c m g s (λ b k. inl (subst (λ b. IsBelow order (times m b) d) (lead_unique P (lead_from_monic P is) k) l)) t e)
+          | inr (inl l) ↦ inr (d, w, more c m g s (λ b k. inr (ap (times m) (lead_unique P k (lead_from_monic P is)) ∙ l)) t e)
+          | inr (inr l) ↦ inr (times m a, b a (lead_from_monic P is), more c m g s (λ b k. inr (ap (times m) (lead_unique P k (lead_from_monic P is)))) (Representation-weaker P (λ g s. s) (λ e k. at_most_trans e d (times m a) k (inl l)) t) e)
+        ]
 
     at_height : (d : M) {h : A} → Representation P S (λ e. IsAtMost e d) h → (h ≡ 𝟘) ⊎ LeadIsReducible P S h
     at_height d r = order_induction order (λ d. (h : A) → Representation P S (λ e. IsAtMost e d) h → (h ≡ 𝟘) ⊎ LeadIsReducible P S h) (λ d lower h r. elim (collect r) [ inr t ↦ inr (top_lead t) | inl u ↦ elim (greatest_height u) [ inl z ↦ inl z | inr (e, l, v) ↦ lower e l h v ] ]) d _ r

@@ -1,10 +1,9 @@
 -- Laws of monomial orders, and induction along them.
-use Rattle.std.proofs.Common.{◌≡◌, ◌≢◌, ℕ, zero, suc, ◌+◌, ◌<◌, ◌≤◌, List, [], ◌∷◌, length, ◌⊎◌, inl, inr, ⊎_elim, refl, sym, ap, ◌∙◌, subst, arith, cond, nat_cmp, Ordering, Less, Equal, Greater, eq-or-lt_of_le}
+use Rattle.std.proofs.Common.{◌≡◌, ℕ, zero, suc, ◌+◌, ◌<◌, List, [], ◌∷◌, length, ◌⊎◌, inl, inr, refl, sym, ap, ◌∙◌, subst, arith, nat_cmp, Ordering, Less, Equal, Greater}
 use Rattle.std.specs.Cmp.Lexicographic.{slice_cmp}
 use Rattle.std.proofs.lemmas.Cmp.{nat_list_cmp_total, nat_cmp_total, ranked, tied_itself}
-use Rattle.std.proofs.lemmas.Bool.Decides.{nat_tests}
 use Rattle.std.specs.Ordering.{ordering_then, MatchOrdering, ordering_reverse}
-use Rattle.fj_algebra.specs.Order.{Monomials, Divides, IsLeastCommonMultiple, add_entries, MonomialOrder, compare, IsBelow}
+use Rattle.fj_algebra.specs.Order.{Monomials, Divides, add_entries, MonomialOrder, compare, IsBelow}
 
 -- the three answers of a comparison of numbers
 by_number {ℓ} : (P : Ordering → Type ℓ) (x y : ℕ) → (x < y → P Less) → (x ≡ y → P Equal) → (y < x → P Greater) → P (nat_cmp x y)
@@ -113,10 +112,10 @@ module _ {M : Type 0} {monomials : Monomials M} (order : MonomialOrder monomials
   -- Multiplication can be cancelled.
   pub times_cancel : (c a b : M) → times c a ≡ times c b → a ≡ b
   times_cancel c a b e = elim (trichotomy a b) [
-      inl h ↦ absurd (below_irrefl (subst (λ d. IsBelow order d (times c b)) e (below_times c h)))
-      | inr (inl h) ↦ h
-      | inr (inr h) ↦ absurd (below_irrefl (subst (λ d. IsBelow order (times c b) d) e (below_times c h)))
-    ]
+    | inl h ↦ absurd (below_irrefl (subst (λ d. IsBelow order d (times c b)) e (below_times c h)))
+    | inr (inl h) ↦ h
+    | inr (inr h) ↦ absurd (below_irrefl (subst (λ d. IsBelow order (times c b) d) e (below_times c h)))
+  ]
 
   -- The monomial one is the least.
   pub one_least : (a : M) → IsBelow order a one → ⊥

@@ -1,10 +1,10 @@
 -- Laws of coefficients, terms and leads.
-use Rattle.std.proofs.Common.{◌≡◌, ◌≢◌, ℕ, zero, suc, ◌<◌, List, [], ◌∷◌, length, Contains, ◌⊎◌, inl, inr, ⊎_elim, refl, sym, ap, ◌∙◌, subst, arith}
+use Rattle.std.proofs.Common.{◌≡◌, ◌≢◌, zero, suc, List, [], ◌∷◌, Contains, ◌⊎◌, inl, inr, sym, ap, ◌∙◌, subst, arith}
 use Rattle.fj_algebra.specs.Ring.{CommutativeRing, subtract}
-use Rattle.fj_algebra.specs.Order.{Monomials, Divides, MonomialOrder, IsBelow}
+use Rattle.fj_algebra.specs.Order.{IsBelow}
 use Rattle.fj_algebra.specs.Polynomial.{Field, PolynomialRing, OrderedPolynomials, IsLead, IsMonic, Supported}
-use Rattle.fj_algebra.proofs.Ring.{ring_laws, zero_mul, mul_zero, one_mul, add_cancel_left, neg_unique, zero_add, add_zero, mul_comm}
-use Rattle.fj_algebra.proofs.Order.{order_induction, trichotomy, below_trans, below_irrefl, below_times, times_cancel, one_least, one_times}
+use Rattle.fj_algebra.proofs.Ring.{ring_laws, zero_mul, mul_zero, one_mul, add_cancel_left, neg_unique, add_zero}
+use Rattle.fj_algebra.proofs.Order.{order_induction, trichotomy, below_trans, below_irrefl, times_cancel, one_times}
 
 -- The product of elements of a field that are not zero is not zero.
 pub mul_nonzero : {K : Type 0} (F : Field K) (c d : K) → c ≢ F.ring.zero → d ≢ F.ring.zero → F.ring.mul c d ≢ F.ring.zero
@@ -90,6 +90,7 @@ module _ {K M A : Type 0} (P : OrderedPolynomials K M A) where
       inner : (q : M) → Dec (b ≡ q) → coefficient (mul (term c a) (term d b)) (times a q) ≡ coefficient (term (scalars.mul c d) (times a b)) (times a q)
       inner q (yes e) = rw (← e, P.coefficient_multiple c a (term d b) b, P.coefficient_same d b, P.coefficient_same (scalars.mul c d) (times a b))
       inner q (no n) = rw (P.coefficient_multiple c a (term d b) q, P.coefficient_other d b q n, P.coefficient_other (scalars.mul c d) (times a b) (times a q) (λ e. n (times_cancel order a b q e))) (mul_zero scalars c)
+
       go : (e : M) → Dec ((q : M) × (times a q ≡ e)) → coefficient (mul (term c a) (term d b)) e ≡ coefficient (term (scalars.mul c d) (times a b)) e
       go e (yes (q, h)) = rw (← h) (inner q (same_monomial b q))
       go e (no none) = P.coefficient_no_multiple c a (term d b) e (λ h. none (h.quotient, h.product)) ∙ sym (P.coefficient_other (scalars.mul c d) (times a b) e (λ h. none (b, h)))
@@ -113,16 +114,16 @@ module _ {K M A : Type 0} (P : OrderedPolynomials K M A) where
       go b n (no m) = absurd (n (P.coefficient_other c a b m))
 
   -- A polynomial without its term at a.
-  abbrev without : A → M → A
+  abbrev pub without : A → M → A
   without f a = subtract P.ring f (term (coefficient f a) a)
 
-  without_same : (f : A) (a : M) → coefficient (without f a) a ≡ scalars.zero
+  pub without_same : (f : A) (a : M) → coefficient (without f a) a ≡ scalars.zero
   without_same f a = coefficient_subtract P.polynomials f (term (coefficient f a) a) a ∙ rw (P.coefficient_same (coefficient f a) a) (scalars.add_neg (coefficient f a))
 
-  without_other : (f : A) (a b : M) → a ≢ b → coefficient (without f a) b ≡ coefficient f b
+  pub without_other : (f : A) (a b : M) → a ≢ b → coefficient (without f a) b ≡ coefficient f b
   without_other f a b n = coefficient_subtract P.polynomials f (term (coefficient f a) a) b ∙ rw (P.coefficient_other (coefficient f a) a b n) (subtract_zero scalars (coefficient f b))
 
-  with_term : (f : A) (a : M) → f ≡ add (term (coefficient f a) a) (without f a)
+  pub with_term : (f : A) (a : M) → f ≡ add (term (coefficient f a) a) (without f a)
   with_term f a = restore P.ring f (term (coefficient f a) a)
     where
       restore : {A : Type 0} (R : CommutativeRing A) (f t : A) → f ≡ R.add t (subtract R f t)
@@ -131,7 +132,7 @@ module _ {K M A : Type 0} (P : OrderedPolynomials K M A) where
   pub Supported-without : {B : M → Type 0} {f : A} (a : M) → Supported P.polynomials B f → Supported P.polynomials B (without f a)
   Supported-without {B} {f} a s = record { within = λ b n. elim (same_monomial a b) [ yes e ↦ absurd (n (subst (λ b. coefficient (without f a) b ≡ scalars.zero) e (without_same f a))) | no m ↦ s.within b (λ z. n (without_other f a b m ∙ z)) ] }
 
-  under_without : {f : A} {a : M} → IsLead P f a → Supported P.polynomials (λ b. IsBelow order b a) (without f a)
+  pub under_without : {f : A} {a : M} → IsLead P f a → Supported P.polynomials (λ b. IsBelow order b a) (without f a)
   under_without {f} {a} h = record { within = λ b n. go b n (trichotomy order a b) }
     where
       go : (b : M) → coefficient (without f a) b ≢ scalars.zero → IsBelow order a b ⊎ ((a ≡ b) ⊎ IsBelow order b a) → IsBelow order b a
@@ -145,22 +146,22 @@ module _ {K M A : Type 0} (P : OrderedPolynomials K M A) where
   greatest f (x ∷ bs) = go (P.field.is_zero (coefficient f x)) (greatest f bs)
     where
       go : Dec (coefficient f x ≡ scalars.zero) → ((b : M) → Contains bs b → coefficient f b ≡ scalars.zero) ⊎ ((a : M) × (coefficient f a ≢ scalars.zero) × ((b : M) → Contains bs b → IsBelow order a b → coefficient f b ≡ scalars.zero))
-        → ((b : M) → Contains (x ∷ bs) b → coefficient f b ≡ scalars.zero) ⊎ ((a : M) × (coefficient f a ≢ scalars.zero) × ((b : M) → Contains (x ∷ bs) b → IsBelow order a b → coefficient f b ≡ scalars.zero))
+          → ((b : M) → Contains (x ∷ bs) b → coefficient f b ≡ scalars.zero) ⊎ ((a : M) × (coefficient f a ≢ scalars.zero) × ((b : M) → Contains (x ∷ bs) b → IsBelow order a b → coefficient f b ≡ scalars.zero))
       go (yes e) (inl none) = inl (λ b c. elim (contains_cons x bs b c) [ inl h ↦ subst (λ b. coefficient f b ≡ scalars.zero) h e | inr h ↦ none b h ])
       go (yes e) (inr (a, n, top)) = inr (a, n, λ b c l. elim (contains_cons x bs b c) [ inl h ↦ subst (λ b. coefficient f b ≡ scalars.zero) h e | inr h ↦ top b h l ])
       go (no m) (inl none) = inr (x, m, λ b c l. elim (contains_cons x bs b c) [ inl h ↦ absurd (below_irrefl order (subst (IsBelow order x) (sym h) l)) | inr h ↦ none b h ])
       go (no m) (inr (a, n, top)) = elim (trichotomy order x a) [
-          inl l ↦ inr (a, n, λ b c k. elim (contains_cons x bs b c) [ inl h ↦ absurd (below_irrefl order (below_trans order (subst (IsBelow order a) (sym h) k) l)) | inr h ↦ top b h k ])
-          | inr (inl e) ↦ inr (a, n, λ b c k. elim (contains_cons x bs b c) [ inl h ↦ absurd (below_irrefl order (subst (IsBelow order a) (sym h ∙ e) k)) | inr h ↦ top b h k ])
-          | inr (inr l) ↦ inr (x, m, λ b c k. elim (contains_cons x bs b c) [ inl h ↦ absurd (below_irrefl order (subst (IsBelow order x) (sym h) k)) | inr h ↦ top b h (below_trans order l k) ])
-        ]
+        | inl l ↦ inr (a, n, λ b c k. elim (contains_cons x bs b c) [ inl h ↦ absurd (below_irrefl order (below_trans order (subst (IsBelow order a) (sym h) k) l)) | inr h ↦ top b h k ])
+        | inr (inl e) ↦ inr (a, n, λ b c k. elim (contains_cons x bs b c) [ inl h ↦ absurd (below_irrefl order (subst (IsBelow order a) (sym h ∙ e) k)) | inr h ↦ top b h k ])
+        | inr (inr l) ↦ inr (x, m, λ b c k. elim (contains_cons x bs b c) [ inl h ↦ absurd (below_irrefl order (subst (IsBelow order x) (sym h) k)) | inr h ↦ top b h (below_trans order l k) ])
+      ]
 
   -- Each polynomial is zero or has a lead.
   pub lead_or_zero : (f : A) → (f ≡ 𝟘) ⊎ ((a : M) × IsLead P f a)
   lead_or_zero f = elim (greatest f (P.support f)) [
-      inl none ↦ inl (P.equal f 𝟘 (λ a. zero_at a (λ c. none a c) ∙ sym (coefficient_zero P.polynomials a)))
-      | inr (a, n, top) ↦ inr (a, record { nonzero = n; top = λ b l. zero_at b (λ c. top b c l) })
-    ]
+    | inl none ↦ inl (P.equal f 𝟘 (λ a. zero_at a (λ c. none a c) ∙ sym (coefficient_zero P.polynomials a)))
+    | inr (a, n, top) ↦ inr (a, record { nonzero = n; top = λ b l. zero_at b (λ c. top b c l) })
+  ]
     where
       zero_at : (a : M) → (Contains (P.support f) a → coefficient f a ≡ scalars.zero) → coefficient f a ≡ scalars.zero
       zero_at a h = elim (P.field.is_zero (coefficient f a)) [ yes e ↦ e | no n ↦ h (P.support_covers f a n) ]

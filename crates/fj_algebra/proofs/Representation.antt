@@ -1,13 +1,11 @@
 -- Laws of representations by multiples.
-use Rattle.std.proofs.Common.{◌≡◌, ◌≢◌, ℕ, zero, suc, List, [], ◌∷◌, Contains, ◌⊎◌, inl, inr, refl, sym, ap, ◌∙◌, subst, arith}
+use Rattle.std.proofs.Common.{◌≡◌, refl, sym, ap, ◌∙◌, subst}
 use Rattle.fj_algebra.specs.Ring.{CommutativeRing, subtract}
-use Rattle.fj_algebra.specs.Order.{IsBelow}
-use Rattle.fj_algebra.specs.Polynomial.{OrderedPolynomials, IsLead, IsMonic, Supported}
+use Rattle.fj_algebra.specs.Polynomial.{OrderedPolynomials, IsLead, Supported}
 use Rattle.fj_algebra.specs.Representation.{Representation, nothing, more}
-use Rattle.fj_algebra.specs.Buchberger.{AllMonic}
-use Rattle.fj_algebra.proofs.Ring.{ring_laws, zero_mul, mul_zero, one_mul, add_zero, neg_unique, neg_mul}
-use Rattle.fj_algebra.proofs.Order.{trichotomy, below_trans, below_irrefl, below_times, one_times}
-use Rattle.fj_algebra.proofs.Polynomial.{Supported-zero, Supported-add, Supported-multiple, Supported-weaker, term_add, term_zero, term_mul, term_one, term_induction, lead_from_monic, lead_unique}
+use Rattle.fj_algebra.proofs.Ring.{ring_laws, zero_mul, mul_zero, one_mul, neg_unique, neg_mul}
+use Rattle.fj_algebra.proofs.Order.{one_times}
+use Rattle.fj_algebra.proofs.Polynomial.{term_add, term_zero, term_mul, term_one, term_induction}
 
 module _ {A : Type 0} (R : CommutativeRing A) where
   open R use {add, mul, neg}
@@ -37,7 +35,7 @@ module _ {K M A : Type 0} (P : OrderedPolynomials K M A) where
   Representation-multiple c m w (nothing e) = nothing (rw e (mul_zero P.ring (term c m)))
   Representation-multiple {C = C} {h = h} c m w (more {rest = rest} d n g s b r e) =
       more (scalars.mul c d) (times m n) g s (λ a k. subst C (sym (P.monomials.times_assoc m n a)) (w (times n a) (b a k))) (Representation-multiple c m w r)
-        (multiply_more P.ring (term c m) h (term d n) g rest e ∙ ap (λ t. add (mul t g) (mul (term c m) rest)) (term_mul P c d m n))
+      (multiply_more P.ring (term c m) h (term d n) g rest e ∙ ap (λ t. add (mul t g) (mul (term c m) rest)) (term_mul P c d m n))
 
   -- The term of the opposite coefficient is the negative.
   pub term_neg : (c : K) (a : M) → term (scalars.neg c) a ≡ neg (term c a)

@@ -1,5 +1,5 @@
 -- Gröbner bases by Buchberger's criterion.
-use Rattle.std.specs.Prelude.{◌≡◌, ◌≢◌, List, Contains}
+use Rattle.std.specs.Prelude.{◌≡◌, ◌≢◌, List}
 use Rattle.fj_algebra.specs.Ring.{subtract}
 use Rattle.fj_algebra.specs.Order.{Divides, IsBelow}
 use Rattle.fj_algebra.specs.Polynomial.{OrderedPolynomials, IsLead, IsMonic}
@@ -15,7 +15,7 @@ pub record AllMonic {K M A : Type 0} (P : OrderedPolynomials K M A) (S : A → T
 -- 2015, chapter 2, section 9).
 pub record Settled {K M A : Type 0} (P : OrderedPolynomials K M A) (S : A → Type 0) (g h : A) : Type 0 where
   pub below : (m n a b : M) → IsLead P g a → IsLead P h b → P.monomials.times m a ≡ P.monomials.times n b
-    → Representation P S (λ e. IsBelow P.order e (P.monomials.times m a)) (subtract P.ring (P.ring.mul (P.term P.field.ring.one m) g) (P.ring.mul (P.term P.field.ring.one n) h))
+      → Representation P S (λ e. IsBelow P.order e (P.monomials.times m a)) (subtract P.ring (P.ring.mul (P.term P.field.ring.one m) g) (P.ring.mul (P.term P.field.ring.one n) h))
 
 -- The monomial a is divided by the lead of a member of S.
 pub record IsReducible {K M A : Type 0} (P : OrderedPolynomials K M A) (S : A → Type 0) (a : M) : Type 0 where
