@@ -30,19 +30,19 @@ module _ {K M A : Type 0} (P : OrderedPolynomials K M A) where
   open P use {coefficient, term, ring.{zero as 𝟘, one as 𝟙, add, neg, mul}, field.ring as scalars, monomials.{one, times}, order}
 
   -- a is at most b
-  abbrev IsAtMost : M → M → Type 0
+  abbrev pub IsAtMost : M → M → Type 0
   IsAtMost a b = IsBelow order a b ⊎ (a ≡ b)
 
-  at_most_trans : (a b c : M) → IsAtMost a b → IsAtMost b c → IsAtMost a c
+  pub at_most_trans : (a b c : M) → IsAtMost a b → IsAtMost b c → IsAtMost a c
   at_most_trans a b c (inl h) (inl k) = inl (below_trans order h k)
   at_most_trans a b c (inl h) (inr e) = inl (subst (IsBelow order a) e h)
   at_most_trans a b c (inr e) h = subst (λ a. IsAtMost a c) (sym e) h
 
-  at_most_times : (m a b : M) → IsAtMost a b → IsAtMost (times m a) (times m b)
+  pub at_most_times : (m a b : M) → IsAtMost a b → IsAtMost (times m a) (times m b)
   at_most_times m a b (inl h) = inl (below_times order m h)
   at_most_times m a b (inr e) = inr (ap (times m) e)
 
-  below_at_most : (a b c : M) → IsAtMost a b → IsBelow order b c → IsBelow order a c
+  pub below_at_most : (a b c : M) → IsAtMost a b → IsBelow order b c → IsBelow order a c
   below_at_most a b c (inl h) k = below_trans order h k
   below_at_most a b c (inr e) k = subst (λ a. IsBelow order a c) (sym e) k
 

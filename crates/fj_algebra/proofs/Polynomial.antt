@@ -19,7 +19,7 @@ pub subtract_zero : {K : Type 0} (R : CommutativeRing K) (c : K) → subtract R 
 subtract_zero R c = simp (subtract, ring_laws)
 
 -- an element of a list is its head or in its tail
-contains_cons : {X : Type 0} (x : X) (xs : List X) (y : X) → Contains (x ∷ xs) y → (x ≡ y) ⊎ Contains xs y
+pub contains_cons : {X : Type 0} (x : X) (xs : List X) (y : X) → Contains (x ∷ xs) y → (x ≡ y) ⊎ Contains xs y
 contains_cons x xs y (zero, l, e) = inl e
 contains_cons x xs y (suc k, l, e) = inr (k, omega arith, e)
 

@@ -1,9 +1,11 @@
 -- Laws of representations by multiples.
-use Rattle.std.proofs.Common.{◌≡◌, refl, sym, ap, ◌∙◌, subst}
+use Rattle.std.proofs.Common.{ℕ, zero, suc, List, [], ◌∷◌, Contains, arith, ◌≡◌, refl, sym, ap, ◌∙◌, subst}
 use Rattle.fj_algebra.specs.Ring.{CommutativeRing, subtract}
 use Rattle.fj_algebra.specs.Polynomial.{OrderedPolynomials, IsLead, Supported}
 use Rattle.fj_algebra.specs.Representation.{Representation, nothing, more}
 use Rattle.fj_algebra.proofs.Ring.{ring_laws, zero_mul, mul_zero, one_mul, neg_unique, neg_mul}
+use Rattle.fj_algebra.specs.Ideal.{Member, combination}
+use Rattle.fj_algebra.proofs.Ideal.{Member-zero, Member-add, Member-mul, Member-same}
 use Rattle.fj_algebra.proofs.Order.{one_times}
 use Rattle.fj_algebra.proofs.Polynomial.{term_add, term_zero, term_mul, term_one, term_induction}
 
@@ -61,3 +63,16 @@ module _ {K M A : Type 0} (P : OrderedPolynomials K M A) where
     where
       spread : {A : Type 0} (R : CommutativeRing A) (f h g : A) → R.mul (R.add f h) g ≡ R.add (R.mul f g) (R.mul h g)
       spread R f h g = simp ring_laws
+
+  -- What is represented by members of (L) is in (L).
+  pub Member-from_representation : {L : List A} {S : A → Type 0} {B : M → Type 0} {h : A} → ((g : A) → S g → Member P.ring L g) → Representation P S B h → Member P.ring L h
+  Member-from_representation {L = L} u (nothing e) = Member-same e (Member-zero L)
+  Member-from_representation u (more c m g s b r e) = Member-same e (Member-add (Member-mul (term c m) (u g s)) (Member-from_representation u r))
+
+  combination_representation : {S : A → Type 0} (c : ℕ → A) (L : List A) → ((g : A) → Contains L g → S g) → Representation P S (λ _. Unit {0}) (combination P.ring c L)
+  combination_representation c [] u = nothing refl
+  combination_representation c (g ∷ L) u = Representation-add (Representation-product g (u g (zero, omega arith, refl)) (λ _ _ _ _. tt) (record { within = λ a n. tt {0} })) (combination_representation (λ j. c (suc j)) L (λ k h. u k (suc h.0, omega (arith, h.1), h.2)))
+
+  -- A member of the ideal (L) is represented by L.
+  pub representation_from_Member : {L : List A} {h : A} → Member P.ring L h → Representation P (Contains L) (λ _. Unit {0}) h
+  representation_from_Member {L} m = Representation-same m.is (combination_representation m.cofactors L (λ g h. h))

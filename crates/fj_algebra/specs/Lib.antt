@@ -1,4 +1,5 @@
 pub mod Buchberger
+pub mod Division
 pub mod Frobenius
 pub mod Ideal
 pub mod Order
