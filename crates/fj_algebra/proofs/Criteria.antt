@@ -1,14 +1,21 @@
 -- When a pair is settled: by a representation at the least common multiple, by coprime leads, through a third member.
-use Rattle.std.proofs.Common.{◌≡◌, refl, sym, ap, ◌∙◌, subst}
+use Rattle.std.proofs.Common.{List, Contains, ◌⊎◌, inl, inr, ◌≡◌, refl, sym, ap, ◌∙◌, subst}
 use Rattle.fj_algebra.specs.Ring.{CommutativeRing, subtract}
 use Rattle.fj_algebra.specs.Order.{Divides, IsBelow, IsLeastCommonMultiple}
-use Rattle.fj_algebra.specs.Polynomial.{OrderedPolynomials, IsLead, IsMonic}
+use Rattle.fj_algebra.specs.Polynomial.{OrderedPolynomials, IsLead, IsMonic, Supported}
 use Rattle.fj_algebra.specs.Representation.{Representation, nothing}
-use Rattle.fj_algebra.specs.Buchberger.{Settled}
-use Rattle.fj_algebra.proofs.Ring.{ring_laws, subtract_self}
-use Rattle.fj_algebra.proofs.Order.{below_times, times_cancel, times_left_comm}
-use Rattle.fj_algebra.proofs.Polynomial.{without, with_term, under_without, monic_term_mul, lead_from_monic, lead_unique}
-use Rattle.fj_algebra.proofs.Representation.{Representation-weaker, Representation-same, Representation-add, Representation-subtract, Representation-neg, Representation-multiple, Representation-product}
+use Rattle.fj_algebra.specs.Buchberger.{AllMonic, Settled, CoversLeads, TreatedRemainder, vanishes, appended}
+use Rattle.fj_algebra.specs.Division.{DivisionState, IsDivision}
+use Rattle.fj_algebra.specs.Ideal.{Inside, Member}
+use Rattle.std.specs.List.{AllPairs}
+use Rattle.fj_algebra.proofs.Lists.{pair_of}
+use Rattle.fj_algebra.proofs.Ideal.{Member-Inside}
+use Rattle.fj_algebra.proofs.Buchberger.{IsAtMost, at_most_lead, at_most_times, below_at_most, Supported-from_representation, buchberger}
+use Rattle.fj_algebra.proofs.Division.{under_cancel, division_representation, difference_back, restore}
+use Rattle.fj_algebra.proofs.Ring.{ring_laws, subtract_self, zero_mul}
+use Rattle.fj_algebra.proofs.Order.{below_times, below_irrefl, times_cancel, times_left_comm, one_times}
+use Rattle.fj_algebra.proofs.Polynomial.{without, with_term, under_without, monic_term_mul, term_zero, lead_from_monic, lead_unique, lead_or_zero, coefficient_outside, Supported-multiple, Supported-subtract}
+use Rattle.fj_algebra.proofs.Representation.{Representation-weaker, Representation-same, Representation-add, Representation-subtract, Representation-neg, Representation-multiple, Representation-product, Representation-single, representation_from_Member}
 
 module _ {A : Type 0} (R : CommutativeRing A) where
   open R use {add, mul, neg}
@@ -91,3 +98,50 @@ module _ {K M A : Type 0} (P : OrderedPolynomials K M A) where
           let q : times d.quotient c ≡ times m a' = P.monomials.times_comm d.quotient c ∙ d.product in
           Representation-same P (through P.ring (mul (term scalars.one m) g) (mul (term scalars.one d.quotient) k) (mul (term scalars.one n) h))
           (Representation-add P (s.below m d.quotient a' c l lc (sym q)) (subst (λ f. Representation P S (λ e. IsBelow order e f) (subtract P.ring (mul (term scalars.one d.quotient) k) (mul (term scalars.one n) h))) q (t.below d.quotient n c b' lc l' (q ∙ e))))
+
+  -- The difference of two monic multiples with one lead has its monomials below it.
+  pub difference_under : {g h : A} {a b c : M} (m n : M) → IsMonic P g a → IsMonic P h b → times m a ≡ c → times n b ≡ c → Supported P.polynomials (λ e. IsBelow order e c) (subtract P.ring (mul (term scalars.one m) g) (mul (term scalars.one n) h))
+  difference_under {g} {h} {a} {b} {c} m n is is' e d = under_cancel P is_lead (lead_from_monic P is') d (ap (scalars.mul scalars.one) is'.monic ∙ scalars.mul_one scalars.one ∙ sym at_lead)
+    where
+      at_lead : coefficient (mul (term scalars.one m) g) c ≡ scalars.one
+      at_lead = subst (λ c. coefficient (mul (term scalars.one m) g) c ≡ scalars.one) e (P.coefficient_multiple scalars.one m g a ∙ ap (scalars.mul scalars.one) is.monic ∙ scalars.mul_one scalars.one)
+
+      is_lead : IsLead P (mul (term scalars.one m) g) c
+      is_lead = record {
+        nonzero = λ z. P.field.one_is_not_zero (sym at_lead ∙ z);
+        top = λ f l. coefficient_outside P.polynomials {B = λ e. IsAtMost P e (times m a)} (Supported-multiple P.polynomials scalars.one m (λ f k. at_most_times P m f a k) (at_most_lead P is.top)) f (λ k. below_irrefl order (below_at_most P f (times m a) f k (subst (λ c. IsBelow order c f) (sym e) l)))
+      }
+
+  -- A pair is settled by dividing its difference at the least common multiple of the leads by members of S, where the
+  -- remainder is zero or, made monic, a member of S.
+  pub Settled-by_division : {S : A → Type 0} {G : List A} {g h : A} {a b c m n : M} {t : DivisionState A} → AllMonic P (Contains G) → ((k : A) → Contains G k → S k) → IsMonic P g a → IsMonic P h b → IsLeastCommonMultiple P.monomials a b c → times m a ≡ c → times n b ≡ c
+    → IsDivision P G (subtract P.ring (mul (term scalars.one m) g) (mul (term scalars.one n) h)) t → TreatedRemainder P S t.remainder → Settled P S g h
+  Settled-by_division {S} {G} {g} {h} {a} {b} {c} {m} {n} {t} monic inside is is' least e d division remains = Settled-from_least (lead_from_monic P is) (lead_from_monic P is') least m n e d (represented (lead_or_zero P difference))
+    where
+      difference : A
+      difference = subtract P.ring (mul (term scalars.one m) g) (mul (term scalars.one n) h)
+
+      under : Supported P.polynomials (λ e. IsBelow order e c) difference
+      under = difference_under m n is is' e d
+
+      left : (f : M) → IsBelow order f c → Supported P.polynomials (λ e. IsAtMost P e f) difference → TreatedRemainder P S t.remainder → Representation P S (λ e. IsBelow order e c) t.remainder
+      left f l w (vanishes z) = nothing z
+      left f l w (appended u k x s q i) = elim (P.field.is_zero u) [
+          yes z ↦ nothing (i ∙ ap (λ u. mul (term u one) k) z ∙ ap (λ v. mul v k) (term_zero P one) ∙ zero_mul P.ring k)
+          | no v ↦ Representation-same P i (Representation-single P u one k s (λ y o. subst (λ y. IsBelow order y c) (sym (one_times P.monomials y ∙ lead_unique P o (lead_from_monic P q))) (remainder_under.within x (λ z. v (sym (ap (λ r. coefficient r x) i ∙ subst (λ y. coefficient (mul (term u one) k) y ≡ scalars.mul u (coefficient k x)) (one_times P.monomials x) (P.coefficient_multiple u one k x) ∙ ap (scalars.mul u) q.monic ∙ scalars.mul_one u) ∙ z)))))
+        ]
+        where
+          remainder_under : Supported P.polynomials (λ e. IsBelow order e c) t.remainder
+          remainder_under = subst (Supported P.polynomials (λ e. IsBelow order e c)) (sym (difference_back P.ring difference t.remainder)) (Supported-subtract P.polynomials under (Supported-from_representation P monic (Representation-weaker P (λ _ o. o) (λ e o. below_at_most P e f c o l) (division_representation P f w division))))
+
+      represented : (difference ≡ 𝟘) ⊎ ((f : M) × IsLead P difference f) → Representation P S (λ e. IsBelow order e c) difference
+      represented (inl z) = nothing z
+      represented (inr (f, k)) = Representation-same P (restore P.ring difference t.remainder) (Representation-add P (Representation-weaker P inside (λ e o. below_at_most P e f c o (under.within f k.nonzero)) (division_representation P f (at_most_lead P k.top) division)) (left f (under.within f k.nonzero) (at_most_lead P k.top) remains))
+
+  -- Pairs in the order of the list are enough.
+  pub settled_pairs : (G : List A) → AllPairs (Settled P (Contains G)) G → (g h : A) → Contains G g → Contains G h → Settled P (Contains G) g h
+  settled_pairs G all g h c d = elim (pair_of (Settled P (Contains G)) G all g h c d) [ inl e ↦ subst (Settled P (Contains G) g) e (Settled-refl (Contains G) g) | inr (inl s) ↦ s | inr (inr s) ↦ Settled-sym s ]
+
+  -- Buchberger's criterion for lists: where all pairs of a list are settled, its leads divide the leads of all nonzero members of its ideal.
+  pub covers_from_settled : {L G : List A} → AllMonic P (Contains G) → AllPairs (Settled P (Contains G)) G → Inside P.ring L G → CoversLeads P L (Contains G)
+  covers_from_settled {L} {G} monic all inside = record { covers = λ h m n. elim (buchberger P monic (settled_pairs G all) (representation_from_Member P (Member-Inside inside m))) [ inl z ↦ absurd (n z) | inr k ↦ k ] }

@@ -10,21 +10,22 @@ use Rattle.fj_algebra.specs.Buchberger.{IsReducible, LeadIsReducible, CoversLead
 use Rattle.fj_algebra.specs.Division.{IsReduced, IsRemainder, DivisionState, Cancels, Moves, DivisionRun, done, step, IsDivision}
 use Rattle.fj_algebra.proofs.Ring.{ring_laws, add_zero, zero_add, zero_mul, add_left_comm, subtract_self}
 use Rattle.fj_algebra.proofs.Ideal.{Member-zero, Member-add, Member-mul, Member-same, Member-subtract, Member-Contains, Member-Inside, Inside-from, Member-from_list}
+use Rattle.fj_algebra.proofs.Lists.{contains_cons}
 use Rattle.fj_algebra.proofs.Order.{trichotomy, below_irrefl}
-use Rattle.fj_algebra.proofs.Polynomial.{subtract_zero, coefficient_subtract, Supported-zero, Supported-add, Supported-weaker, Supported-term, Supported-multiple, Supported-without, coefficient_outside, without, under_without, lead_unique, lead_nonzero, lead_or_zero, lead_induction, is_zero, contains_cons}
+use Rattle.fj_algebra.proofs.Polynomial.{subtract_zero, coefficient_subtract, Supported-zero, Supported-add, Supported-weaker, Supported-term, Supported-multiple, Supported-without, coefficient_outside, without, under_without, lead_unique, lead_nonzero, lead_or_zero, lead_induction, is_zero}
 use Rattle.fj_algebra.proofs.Buchberger.{IsAtMost, at_most_lead, at_most_times, at_most_trans, below_at_most}
 use Rattle.fj_algebra.proofs.Representation.{Representation-same}
 
 module _ {A : Type 0} (R : CommutativeRing A) where
   open R use {add, mul, neg}
 
-  restore : (f t : A) → f ≡ add (subtract R f t) t
+  pub restore : (f t : A) → f ≡ add (subtract R f t) t
   restore f t = simp ring_laws
 
   difference_through : (f t r : A) → subtract R f r ≡ add t (subtract R (subtract R f t) r)
   difference_through f t r = simp ring_laws
 
-  difference_back : (h r : A) → r ≡ subtract R h (subtract R h r)
+  pub difference_back : (h r : A) → r ≡ subtract R h (subtract R h r)
   difference_back h r = simp (subtract, ring_laws)
 
   difference_moved : (p t s r : A) → subtract R (add (subtract R p t) s) (add t r) ≡ subtract R (add (subtract R p t) (subtract R s t)) r

@@ -4,6 +4,7 @@ use Rattle.fj_algebra.specs.Ring.{CommutativeRing, subtract}
 use Rattle.fj_algebra.specs.Order.{IsBelow}
 use Rattle.fj_algebra.specs.Polynomial.{Field, PolynomialRing, OrderedPolynomials, IsLead, IsMonic, Supported}
 use Rattle.fj_algebra.proofs.Ring.{ring_laws, zero_mul, mul_zero, one_mul, add_cancel_left, neg_unique, add_zero}
+use Rattle.fj_algebra.proofs.Lists.{contains_cons}
 use Rattle.fj_algebra.proofs.Order.{order_induction, trichotomy, below_trans, below_irrefl, times_cancel, one_times}
 
 -- The product of elements of a field that are not zero is not zero.
@@ -17,11 +18,6 @@ mul_nonzero F c d nc nd e =
 
 pub subtract_zero : {K : Type 0} (R : CommutativeRing K) (c : K) → subtract R c R.zero ≡ c
 subtract_zero R c = simp (subtract, ring_laws)
-
--- an element of a list is its head or in its tail
-pub contains_cons : {X : Type 0} (x : X) (xs : List X) (y : X) → Contains (x ∷ xs) y → (x ≡ y) ⊎ Contains xs y
-contains_cons x xs y (zero, l, e) = inl e
-contains_cons x xs y (suc k, l, e) = inr (k, omega arith, e)
 
 module _ {K M A : Type 0} (P : PolynomialRing K M A) where
   open P use {coefficient, term, ring.{zero as 𝟘, one as 𝟙, add, neg, mul}, field.ring as scalars, monomials.{one, times}}
@@ -55,6 +51,9 @@ module _ {K M A : Type 0} (P : PolynomialRing K M A) where
 
   pub Supported-neg : {B : M → Type 0} {f : A} → Supported P B f → Supported P B (neg f)
   Supported-neg {B} {f} s = record { within = λ a n. s.within a (λ e. n (coefficient_neg f a ∙ rw e (simp ring_laws))) }
+
+  pub Supported-subtract : {B : M → Type 0} {f g : A} → Supported P B f → Supported P B g → Supported P B (subtract P.ring f g)
+  Supported-subtract s t = Supported-add s (Supported-neg t)
 
   pub Supported-multiple : {B C : M → Type 0} (c : K) (a : M) {f : A} → ((b : M) → B b → C (times a b)) → Supported P B f → Supported P C (mul (term c a) f)
   Supported-multiple {B} {C} c a {f} w s = record { within = λ b n. go b n (P.monomials.quotient a b) }

@@ -17,6 +17,11 @@ pub record Settled {K M A : Type 0} (P : OrderedPolynomials K M A) (S : A → Ty
   pub below : (m n a b : M) → IsLead P g a → IsLead P h b → P.monomials.times m a ≡ P.monomials.times n b
       → Representation P S (λ e. IsBelow P.order e (P.monomials.times m a)) (subtract P.ring (P.ring.mul (P.term P.field.ring.one m) g) (P.ring.mul (P.term P.field.ring.one n) h))
 
+-- The remainder r that a treated pair leaves is zero, or a constant times a monic member of S.
+pub data TreatedRemainder {K M A : Type 0} (P : OrderedPolynomials K M A) (S : A → Type 0) (r : A) : Type 0 where
+  vanishes : r ≡ P.ring.zero → TreatedRemainder P S r
+  appended : (c : K) (k : A) (a : M) → S k → IsMonic P k a → r ≡ P.ring.mul (P.term c P.monomials.one) k → TreatedRemainder P S r
+
 -- The monomial a is divided by the lead of a member of S.
 pub record IsReducible {K M A : Type 0} (P : OrderedPolynomials K M A) (S : A → Type 0) (a : M) : Type 0 where
   pub divisor : A

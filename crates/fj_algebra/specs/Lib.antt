@@ -5,6 +5,7 @@ pub mod Ideal
 pub mod Order
 pub mod Polynomial
 pub mod Power
+pub mod ReducedBasis
 pub mod Representation
 pub mod Ring
 pub mod Sum
