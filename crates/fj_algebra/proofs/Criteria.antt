@@ -6,7 +6,7 @@ use Rattle.fj_algebra.specs.Polynomial.{OrderedPolynomials, IsLead, IsMonic, Sup
 use Rattle.fj_algebra.specs.Representation.{Representation, nothing}
 use Rattle.fj_algebra.specs.Buchberger.{AllMonic, Settled, CoversLeads, TreatedRemainder, vanishes, appended}
 use Rattle.fj_algebra.specs.Division.{DivisionState, IsDivision}
-use Rattle.fj_algebra.specs.Ideal.{Inside, Member}
+use Rattle.fj_algebra.specs.Ideal.{Inside}
 use Rattle.std.specs.List.{AllPairs}
 use Rattle.fj_algebra.proofs.Lists.{pair_of}
 use Rattle.fj_algebra.proofs.Ideal.{Member-Inside}
@@ -109,13 +109,13 @@ module _ {K M A : Type 0} (P : OrderedPolynomials K M A) where
       is_lead : IsLead P (mul (term scalars.one m) g) c
       is_lead = record {
         nonzero = λ z. P.field.one_is_not_zero (sym at_lead ∙ z);
-        top = λ f l. coefficient_outside P.polynomials {B = λ e. IsAtMost P e (times m a)} (Supported-multiple P.polynomials scalars.one m (λ f k. at_most_times P m f a k) (at_most_lead P is.top)) f (λ k. below_irrefl order (below_at_most P f (times m a) f k (subst (λ c. IsBelow order c f) (sym e) l)))
+        top = λ f l. coefficient_outside P.polynomials {B = λ e. IsAtMost P e (times m a)} (Supported-multiple P.polynomials scalars.one m (λ f k. at_most_times P m f a k) (at_most_lead P is.top)) f (λ k. below_irrefl order (below_at_most P f (times m a) f k (subst (λ c. IsBelow order c f) (sym e) l)));
       }
 
   -- A pair is settled by dividing its difference at the least common multiple of the leads by members of S, where the
   -- remainder is zero or, made monic, a member of S.
   pub Settled-by_division : {S : A → Type 0} {G : List A} {g h : A} {a b c m n : M} {t : DivisionState A} → AllMonic P (Contains G) → ((k : A) → Contains G k → S k) → IsMonic P g a → IsMonic P h b → IsLeastCommonMultiple P.monomials a b c → times m a ≡ c → times n b ≡ c
-    → IsDivision P G (subtract P.ring (mul (term scalars.one m) g) (mul (term scalars.one n) h)) t → TreatedRemainder P S t.remainder → Settled P S g h
+      → IsDivision P G (subtract P.ring (mul (term scalars.one m) g) (mul (term scalars.one n) h)) t → TreatedRemainder P S t.remainder → Settled P S g h
   Settled-by_division {S} {G} {g} {h} {a} {b} {c} {m} {n} {t} monic inside is is' least e d division remains = Settled-from_least (lead_from_monic P is) (lead_from_monic P is') least m n e d (represented (lead_or_zero P difference))
     where
       difference : A
@@ -127,9 +127,9 @@ module _ {K M A : Type 0} (P : OrderedPolynomials K M A) where
       left : (f : M) → IsBelow order f c → Supported P.polynomials (λ e. IsAtMost P e f) difference → TreatedRemainder P S t.remainder → Representation P S (λ e. IsBelow order e c) t.remainder
       left f l w (vanishes z) = nothing z
       left f l w (appended u k x s q i) = elim (P.field.is_zero u) [
-          yes z ↦ nothing (i ∙ ap (λ u. mul (term u one) k) z ∙ ap (λ v. mul v k) (term_zero P one) ∙ zero_mul P.ring k)
-          | no v ↦ Representation-same P i (Representation-single P u one k s (λ y o. subst (λ y. IsBelow order y c) (sym (one_times P.monomials y ∙ lead_unique P o (lead_from_monic P q))) (remainder_under.within x (λ z. v (sym (ap (λ r. coefficient r x) i ∙ subst (λ y. coefficient (mul (term u one) k) y ≡ scalars.mul u (coefficient k x)) (one_times P.monomials x) (P.coefficient_multiple u one k x) ∙ ap (scalars.mul u) q.monic ∙ scalars.mul_one u) ∙ z)))))
-        ]
+        | yes z ↦ nothing (i ∙ ap (λ u. mul (term u one) k) z ∙ ap (λ v. mul v k) (term_zero P one) ∙ zero_mul P.ring k)
+        | no v ↦ Representation-same P i (Representation-single P u one k s (λ y o. subst (λ y. IsBelow order y c) (sym (one_times P.monomials y ∙ lead_unique P o (lead_from_monic P q))) (remainder_under.within x (λ z. v (sym (ap (λ r. coefficient r x) i ∙ subst (λ y. coefficient (mul (term u one) k) y ≡ scalars.mul u (coefficient k x)) (one_times P.monomials x) (P.coefficient_multiple u one k x) ∙ ap (scalars.mul u) q.monic ∙ scalars.mul_one u) ∙ z)))))
+      ]
         where
           remainder_under : Supported P.polynomials (λ e. IsBelow order e c) t.remainder
           remainder_under = subst (Supported P.polynomials (λ e. IsBelow order e c)) (sym (difference_back P.ring difference t.remainder)) (Supported-subtract P.polynomials under (Supported-from_representation P monic (Representation-weaker P (λ _ o. o) (λ e o. below_at_most P e f c o l) (division_representation P f w division))))

@@ -1,7 +1,7 @@
 -- Pairs of elements of a list, and lists that a relation sorts.
-use Rattle.std.proofs.Common.{◌≡◌, ℕ, zero, suc, ◌+◌, ◌<◌, ◌≤◌, List, [], ◌∷◌, length, get_or, Contains, All, ◌⊎◌, inl, inr, refl, sym, ap, ap₂, ◌∙◌, subst, subst₂, arith}
+use Rattle.std.proofs.Common.{◌≡◌, zero, suc, List, [], ◌∷◌, get_or, Contains, All, ◌⊎◌, inl, inr, refl, sym, ap₂, ◌∙◌, subst, arith}
 use Rattle.std.specs.List.{AllPairs}
-use Rattle.std.proofs.lemmas.List.{get_or_default}
+use Rattle.std.proofs.lemmas.List.Elements.{Contains-get_or}
 
 -- An element of a list is its head or in its tail.
 pub contains_cons : {X : Type 0} (x : X) (xs : List X) (y : X) → Contains (x ∷ xs) y → (x ≡ y) ⊎ Contains xs y
@@ -16,6 +16,9 @@ contains_tail x xs y (k, l, e) = (suc k, omega arith, e)
 
 pub contains_nil : {X : Type 0} (y : X) → Contains [] y → ⊥
 contains_nil y (k, l, e) = omega arith
+
+pub All-from_elements : {X : Type 0} (P : X → Type 0) (xs : List X) → ((x : X) → Contains xs x → P x) → All P xs
+All-from_elements P xs h k d l = h (get_or xs k d) (Contains-get_or xs k d l)
 
 pub AllPairs-head : {X : Type 0} (R : X → X → Type 0) (x : X) (xs : List X) → AllPairs R (x ∷ xs) → (y : X) → Contains xs y → R x y
 AllPairs-head R x xs p y (k, l, e) = subst (R x) e (p zero (suc k) y (omega arith) (omega arith))
@@ -36,7 +39,7 @@ pair_of R (z ∷ xs) p x y c d = go (contains_cons z xs x c) (contains_cons z xs
 
 -- Two lists that a strict order sorts and that have the same elements are equal.
 pub same_elements : {X : Type 0} (R : X → X → Type 0) → ((x : X) → R x x → ⊥) → ((x y : X) → R x y → R y x → ⊥) → (xs ys : List X) → AllPairs R xs → AllPairs R ys
-  → ((x : X) → Contains xs x → Contains ys x) → ((y : X) → Contains ys y → Contains xs y) → xs ≡ ys
+    → ((x : X) → Contains xs x → Contains ys x) → ((y : X) → Contains ys y → Contains xs y) → xs ≡ ys
 same_elements R irreflexive asymmetric [] [] p q f g = refl
 same_elements R irreflexive asymmetric [] (y ∷ ys) p q f g = absurd (contains_nil y (g y (contains_head y ys)))
 same_elements R irreflexive asymmetric (x ∷ xs) [] p q f g = absurd (contains_nil x (f x (contains_head x xs)))

@@ -1,21 +1,21 @@
 -- Laws of reduced bases: they generate, they are unique, they come from a covering list by finishing.
-use Rattle.std.proofs.Common.{◌≡◌, ◌≢◌, ℕ, zero, suc, ◌<◌, List, [], ◌∷◌, ◌++◌, length, get_or, Contains, All, ◌⊎◌, inl, inr, ◌↔◌, refl, sym, ap, ◌∙◌, subst, arith}
+use Rattle.std.proofs.Common.{◌≡◌, ◌≢◌, List, [], ◌∷◌, get_or, Contains, All, ◌⊎◌, inl, inr, ◌↔◌, sym, ap, ◌∙◌, subst, arith}
 use Rattle.std.specs.List.{AllPairs}
-use Rattle.std.proofs.lemmas.List.Elements.{Contains-get_or}
-use Rattle.fj_algebra.specs.Ring.{CommutativeRing, subtract}
+use Rattle.std.proofs.lemmas.List.Elements.{Contains-get_or, All-weaker}
+use Rattle.fj_algebra.specs.Ring.{subtract}
 use Rattle.fj_algebra.specs.Ideal.{Member, Inside, Equal}
 use Rattle.fj_algebra.specs.Order.{Divides, IsBelow}
-use Rattle.fj_algebra.specs.Polynomial.{OrderedPolynomials, IsLead, IsMonic, Supported}
-use Rattle.fj_algebra.specs.Buchberger.{AllMonic, IsReducible, LeadIsReducible, CoversLeads}
-use Rattle.fj_algebra.specs.Division.{IsReduced, IsRemainder}
-use Rattle.fj_algebra.specs.ReducedBasis.{LeadsRise, IsFreeOf, AreReduced, IsReducedBasis}
-use Rattle.fj_algebra.proofs.Ring.{ring_laws, subtract_self, equal_from_subtract}
-use Rattle.fj_algebra.proofs.Ideal.{Member-subtract, Member-Contains, Member-Inside, Member-Equal, Member-same, Inside-from, Inside-trans, Inside-Contains, Equal-sym}
-use Rattle.fj_algebra.proofs.Lists.{contains_cons, contains_head, contains_tail, contains_nil, AllPairs-head, AllPairs-tail, pair_of, same_elements}
-use Rattle.fj_algebra.proofs.Order.{trichotomy, below_irrefl, below_trans, not_below_multiple, divides_antisymm, Divides-refl, Divides-trans}
-use Rattle.fj_algebra.proofs.Polynomial.{coefficient_subtract, subtract_zero, coefficient_outside, Supported-subtract, Supported-weaker, lead_from_monic, lead_unique, lead_nonzero, lead_or_zero, is_zero}
-use Rattle.fj_algebra.proofs.Buchberger.{IsAtMost, at_most_lead}
-use Rattle.fj_algebra.proofs.Division.{covers_generate}
+use Rattle.fj_algebra.specs.Polynomial.{OrderedPolynomials, IsLead, IsMonic}
+use Rattle.fj_algebra.specs.Buchberger.{IsReducible, LeadIsReducible, CoversLeads}
+use Rattle.fj_algebra.specs.Division.{IsRemainder}
+use Rattle.fj_algebra.specs.ReducedBasis.{LeadsRise, AreReduced, IsReducedBasis}
+use Rattle.fj_algebra.proofs.Ring.{subtract_self, equal_from_subtract}
+use Rattle.fj_algebra.proofs.Ideal.{Member-subtract, Member-Contains, Member-Inside, Member-Equal, Member-same, Member-nil, Member-zero, Inside-head, Inside-cons, Inside-nil, Inside-trans, Inside-Contains, Equal-sym}
+use Rattle.fj_algebra.proofs.Lists.{contains_cons, contains_head, contains_nil, All-from_elements, pair_of, same_elements}
+use Rattle.fj_algebra.proofs.Order.{below_irrefl, below_trans, not_below_multiple, divides_antisymm, Divides-trans, one_times}
+use Rattle.fj_algebra.proofs.Polynomial.{coefficient_subtract, Supported-subtract, lead_from_monic, lead_unique, lead_nonzero, lead_or_zero, is_zero, term_one}
+use Rattle.fj_algebra.proofs.Buchberger.{at_most_lead}
+use Rattle.fj_algebra.proofs.Division.{covers_generate, member_by_remainder}
 
 module _ {K M A : Type 0} (P : OrderedPolynomials K M A) where
   open P use {coefficient, term, ring.{zero as 𝟘, one as 𝟙, add, neg, mul}, field.ring as scalars, monomials.{one, times}, order}
@@ -77,9 +77,9 @@ module _ {K M A : Type 0} (P : OrderedPolynomials K M A) where
 
       contradict : LeadIsReducible P (Contains G) (subtract P.ring g h) → LeadIsReducible P (Contains G') (subtract P.ring g h) → ⊥
       contradict k k' = elim (P.field.is_zero (coefficient g k.lead)) [
-          no n ↦ blocked basis g c is k.lead (under k.lead k.is_lead.nonzero) n k.reducible
-          | yes z ↦ blocked basis' h d is' k.lead (under k.lead k.is_lead.nonzero) (λ z'. k.is_lead.nonzero (coefficient_subtract P.polynomials g h k.lead ∙ rw (z, z') (subtract_self scalars scalars.zero))) (subst (IsReducible P (Contains G')) (lead_unique P k'.is_lead k.is_lead) k'.reducible)
-        ]
+        | no n ↦ blocked basis g c is k.lead (under k.lead k.is_lead.nonzero) n k.reducible
+        | yes z ↦ blocked basis' h d is' k.lead (under k.lead k.is_lead.nonzero) (λ z'. k.is_lead.nonzero (coefficient_subtract P.polynomials g h k.lead ∙ rw (z, z') (subtract_self scalars scalars.zero))) (subst (IsReducible P (Contains G')) (lead_unique P k'.is_lead k.is_lead) k'.reducible)
+      ]
 
   shared : {L L' G G' : List A} → Equal P.ring L L' → IsReducedBasis P L G → IsReducedBasis P L' G' → (g : A) → Contains G g → Contains G' g
   shared {G' = G'} same basis basis' g c = go (basis.monic.lead g c)
@@ -106,3 +106,44 @@ module _ {K M A : Type 0} (P : OrderedPolynomials K M A) where
       (λ g r. below_irrefl order (subst (λ a. IsBelow order a r.second) (lead_unique P r.first_lead r.second_lead) r.below))
       (λ g h r s. below_irrefl order (below_trans order (subst (IsBelow order r.first) (lead_unique P r.second_lead s.first_lead) r.below) (subst (IsBelow order s.first) (lead_unique P s.second_lead r.first_lead) s.below)))
       G G' (rises basis) (rises basis') (shared same basis basis') (shared (Equal-sym same) basis' basis)
+
+  -- Membership in the ideal is decided by the remainder by a reduced basis.
+  pub member_of_basis : {L G : List A} {h r : A} → IsReducedBasis P L G → IsRemainder P G h r → Member P.ring L h ↔ (r ≡ 𝟘)
+  member_of_basis basis is = member_by_remainder P basis.members basis.covers is
+
+  -- One is monic.
+  pub one_monic : IsMonic P 𝟙 one
+  one_monic = record { monic = ap (λ f. coefficient f one) (sym (term_one P)) ∙ P.coefficient_same scalars.one one; top = λ b l. ap (λ f. coefficient f b) (sym (term_one P)) ∙ P.coefficient_other scalars.one one b (λ e. below_irrefl order (subst (IsBelow order one) (sym e) l)) }
+
+  no_pairs : (R : A → A → Type 0) (g : A) → AllPairs R (g ∷ [])
+  no_pairs R g i j d l k = absurd (omega arith)
+
+  -- The list of one alone is the reduced basis exactly where one is a member.
+  pub reduced_basis_unit : (L : List A) → IsReducedBasis P L (𝟙 ∷ []) ↔ Member P.ring L 𝟙
+  reduced_basis_unit L = (
+    λ basis. Inside-head basis.members,
+    λ m. record {
+      members = Inside-cons m (Inside-nil L);
+      monic = record { lead = λ g c. go g (contains_cons 𝟙 [] g c) };
+      rising = no_pairs (LeadsRise P) 𝟙;
+      reduced = no_pairs (AreReduced P) 𝟙;
+      covers = record { covers = λ h _ n. elim (lead_or_zero P h) [ inl z ↦ absurd (n z) | inr (a, k) ↦ record { lead = a; is_lead = k; reducible = record { divisor = 𝟙; member = contains_head 𝟙 []; lead = one; is_lead = lead_from_monic P one_monic; divides = record { quotient = a; product = one_times P.monomials a } } } ] };
+    },
+  )
+    where
+      go : (g : A) → (𝟙 ≡ g) ⊎ Contains [] g → (a : M) × IsMonic P g a
+      go g (inl e) = (one, subst (λ g. IsMonic P g one) e one_monic)
+      go g (inr c) = absurd (contains_nil g c)
+
+  -- The empty list is the reduced basis exactly where all elements of the list are zero.
+  pub reduced_basis_zero : (L : List A) → IsReducedBasis P L [] ↔ All (λ g. g ≡ 𝟘) L
+  reduced_basis_zero L = (
+    λ basis. All-from_elements (λ g. g ≡ 𝟘) L (λ g c. Member-nil (Member-Inside (reduced_basis_generates basis).forth (Member-Contains c))),
+    λ zeros. record {
+      members = Inside-nil L;
+      monic = record { lead = λ g c. absurd (contains_nil g c) };
+      rising = λ i j d l k. absurd (omega arith);
+      reduced = λ i j d l k. absurd (omega arith);
+      covers = record { covers = λ h m n. absurd (n (Member-nil (Member-Inside (record { each = All-weaker (λ g. g ≡ 𝟘) (Member P.ring []) (λ g e. Member-same e (Member-zero [])) L zeros }) m))) };
+    },
+  )
