@@ -43,7 +43,7 @@ add_keeps (z ∷ zs) (x ∷ xs) [] e d = absurd (omega arith)
 add_keeps (z ∷ zs) (x ∷ xs) (y ∷ ys) e d = let first = number_add z x y in let rest = add_keeps zs xs ys (omega arith) (omega arith) in cc
 
 -- strong induction along the lexicographic order of the lists of one length
-below_all {ℓ} : (P : ℕ → Type ℓ) → ((n : ℕ) → ((k : ℕ) → k < n → P k) → P n) → (n k : ℕ) → k < n → P k
+pub below_all {ℓ} : (P : ℕ → Type ℓ) → ((n : ℕ) → ((k : ℕ) → k < n → P k) → P n) → (n k : ℕ) → k < n → P k
 below_all P step zero k l = absurd (omega arith)
 below_all P step (suc n) k l = step k (λ j h. below_all P step n j (omega arith))
 

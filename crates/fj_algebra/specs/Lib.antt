@@ -1,5 +1,6 @@
 pub mod Buchberger
 pub mod Division
+pub mod Finishing
 pub mod Frobenius
 pub mod Ideal
 pub mod Order
