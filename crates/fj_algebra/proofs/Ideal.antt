@@ -1,7 +1,8 @@
 -- Ideals of lists: members, inclusion, equality, sums, products and ring maps.
-use Rattle.std.proofs.Common.{◌≡◌, ℕ, zero, suc, List, [], ◌∷◌, ◌++◌, map, length, get_or, All, Contains, refl, sym, ap, ap₂, ◌∙◌}
+use Rattle.std.proofs.Common.{◌≡◌, ℕ, zero, suc, List, [], ◌∷◌, ◌++◌, map, length, get_or, All, Contains, refl, sym, ap, ap₂, ◌∙◌, subst}
 use Rattle.std.proofs.lemmas.List.Elements.{All-nil, All-cons, All-head, All-tail, All-map, All-append, All-weaker, All-contains}
 use Rattle.fj_algebra.specs.Ring.{CommutativeRing, RingMap, subtract}
+use Rattle.fj_algebra.specs.Sum.{sum_over}
 use Rattle.fj_algebra.specs.Ideal.{combination, list_combination, Member, Inside, Equal, multiples, products}
 use Rattle.fj_algebra.proofs.Ring.{zero_add, add_zero, add_assoc, mul_add, add_mul, mul_zero, zero_mul, one_mul, mul_assoc, mul_one, mul_left_comm, mul_comm, neg_mul, ring_laws}
 
@@ -55,6 +56,14 @@ module _ {A : Type 0} (R : CommutativeRing A) where
   pub combination-multiples : (c : ℕ → A) (f : A) (L : List A) → combination R c (multiples R f L) ≡ f ⊗ combination R c L
   combination-multiples c f [] = sym (mul_zero R f)
   combination-multiples c f (g ∷ L) = ap (λ s. c 0 ⊗ (f ⊗ g) ⊕ s) (combination-multiples (λ j. c (suc j)) f L) ∙ ap (λ s. s ⊕ f ⊗ combination R (λ j. c (suc j)) L) (mul_left_comm R (c 0) f g) ∙ sym (mul_add R f _ _)
+
+  pub multiples-one : (L : List A) → multiples R 𝟙 L ≡ L
+  multiples-one [] = refl
+  multiples-one (g ∷ L) = ap₂ ◌∷◌ (one_mul R g) (multiples-one L)
+
+  pub multiples-multiples : (f g : A) (L : List A) → multiples R f (multiples R g L) ≡ multiples R (f ⊗ g) L
+  multiples-multiples f g [] = refl
+  multiples-multiples f g (h ∷ L) = ap₂ ◌∷◌ (sym (mul_assoc R f g h)) (multiples-multiples f g L)
 
   -- The combination with a list of cofactors, and with a sequence of them.
   pub list_combination-get_or : (cs L : List A) → list_combination R cs L ≡ combination R (λ j. get_or cs j 𝟘) L
@@ -117,6 +126,18 @@ module _ {A : Type 0} {R : CommutativeRing A} where
 
   pub list_from_Member : {L : List A} {h : A} → Member R L h → (cs : List A) × (length cs ≡ length L) × (h ≡ list_combination R cs L)
   list_from_Member {L} H = (entries_for L H.cofactors, length_entries_for L H.cofactors, H.is ∙ sym (list_combination-entries_for R H.cofactors L))
+
+  pub Member-sum_over : {X : Type 0} {L : List A} (f : X → A) (xs : List X) → All (λ x. Member R L (f x)) xs → Member R L (sum_over R f xs)
+  Member-sum_over {L = L} f [] each = Member-zero L
+  Member-sum_over {L = L} f (x ∷ xs) each = Member-add (All-head (λ x. Member R L (f x)) x xs each) (Member-sum_over f xs (All-tail (λ x. Member R L (f x)) x xs each))
+
+  -- What holds of the list's elements and is kept by sums and multiples holds of each member.
+  pub Member-induction : {L : List A} {h : A} (V : A → Type 0) → V 𝟘 → ((a b : A) → V a → V b → V (a ⊕ b)) → ((c a : A) → V a → V (c ⊗ a)) → All V L → Member R L h → V h
+  Member-induction {L} V none more times each H = subst V (sym H.is) (go L H.cofactors each)
+    where
+      go : (L : List A) (c : ℕ → A) → All V L → V (combination R c L)
+      go [] c each = none
+      go (g ∷ L) c each = more (c 0 ⊗ g) (combination R (λ j. c (suc j)) L) (times (c 0) g (All-head V g L each)) (go L (λ j. c (suc j)) (All-tail V g L each))
 
   -- A combination of members is a member.
   pub Member-combination : {M : List A} (c : ℕ → A) (L : List A) → All (Member R M) L → Member R M (combination R c L)
@@ -303,3 +324,11 @@ Inside-RingMap {R} {S} {f} F {L} {M} I = record { each = All-map (Member S (map 
 
 pub Equal-RingMap : {A B : Type 0} {R : CommutativeRing A} {S : CommutativeRing B} {f : A → B} → RingMap R S f → {L M : List A} → Equal R L M → Equal S (map f L) (map f M)
 Equal-RingMap F E = record { forth = Inside-RingMap F E.forth; back = Inside-RingMap F E.back }
+
+-- Where a ring map sends each element of the list to zero, it sends each member to zero.
+pub Member-vanishes : {A B : Type 0} {R : CommutativeRing A} {S : CommutativeRing B} {f : A → B} → RingMap R S f → {L : List A} {h : A} → All (λ g. f g ≡ S.zero) L → Member R L h → f h ≡ S.zero
+Member-vanishes {R} {S} {f} F each H =
+    Member-induction (λ h. f h ≡ S.zero) F.keeps_zero
+    (λ a b x y. F.keeps_add a b ∙ ap₂ S.add x y ∙ S.add_zero S.zero)
+    (λ c a x. F.keeps_mul c a ∙ ap (S.mul (f c)) x ∙ mul_zero S (f c))
+    each H

@@ -138,7 +138,7 @@ pub ruleset sum_laws = (add_zero, zero_add, add_assoc, add_comm, add_left_comm)
 pub ruleset product_laws = (mul_one, one_mul, mul_zero, zero_mul, mul_assoc, mul_comm, mul_left_comm)
 
 -- Signs moved to the monomials.
-pub ruleset sign_laws = (neg_zero, neg_neg, neg_sum, mul_neg, neg_mul)
+pub ruleset sign_laws = (subtract, neg_zero, neg_neg, neg_sum, mul_neg, neg_mul)
 
 -- A term and its negative left out, with up to three terms between.
 pub ruleset cancel_laws =

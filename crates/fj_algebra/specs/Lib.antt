@@ -1,12 +1,16 @@
 pub mod Buchberger
+pub mod Colon
 pub mod Division
 pub mod Finishing
 pub mod Frobenius
 pub mod Ideal
 pub mod Order
+pub mod Parts
 pub mod Polynomial
 pub mod Power
 pub mod ReducedBasis
 pub mod Representation
 pub mod Ring
+pub mod Root
+pub mod Splitting
 pub mod Sum
