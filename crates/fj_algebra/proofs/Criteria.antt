@@ -8,7 +8,7 @@ use Rattle.fj_algebra.specs.Buchberger.{AllMonic, Settled, CoversLeads, TreatedR
 use Rattle.fj_algebra.specs.Division.{DivisionState, IsDivision}
 use Rattle.fj_algebra.specs.Ideal.{Inside}
 use Rattle.std.specs.List.{AllPairs}
-use Rattle.fj_algebra.proofs.Lists.{pair_of}
+use Rattle.fj_algebra.proofs.Pairs.{pair_of}
 use Rattle.fj_algebra.proofs.Ideal.{Member-Inside}
 use Rattle.fj_algebra.proofs.Buchberger.{IsAtMost, at_most_lead, at_most_times, below_at_most, Supported-from_representation, buchberger}
 use Rattle.fj_algebra.proofs.Division.{under_cancel, division_representation, difference_back, restore}

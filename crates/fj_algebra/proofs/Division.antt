@@ -10,7 +10,7 @@ use Rattle.fj_algebra.specs.Buchberger.{IsReducible, LeadIsReducible, CoversLead
 use Rattle.fj_algebra.specs.Division.{IsReduced, IsRemainder, DivisionState, Cancels, Moves, DivisionRun, done, step, IsDivision}
 use Rattle.fj_algebra.proofs.Ring.{ring_laws, add_zero, zero_add, zero_mul, add_left_comm, subtract_self}
 use Rattle.fj_algebra.proofs.Ideal.{Member-zero, Member-add, Member-mul, Member-same, Member-subtract, Member-Contains, Member-Inside, Inside-from, Member-from_list}
-use Rattle.fj_algebra.proofs.Lists.{contains_cons}
+use Rattle.fj_algebra.proofs.Pairs.{contains_cons}
 use Rattle.fj_algebra.proofs.Order.{trichotomy, below_irrefl}
 use Rattle.fj_algebra.proofs.Polynomial.{subtract_zero, coefficient_subtract, Supported-zero, Supported-add, Supported-weaker, Supported-term, Supported-multiple, Supported-without, coefficient_outside, without, under_without, lead_unique, lead_nonzero, lead_or_zero, lead_induction, is_zero}
 use Rattle.fj_algebra.proofs.Buchberger.{IsAtMost, at_most_lead, at_most_times, at_most_trans, below_at_most}

@@ -13,7 +13,7 @@ use Rattle.fj_algebra.specs.Division.{IsRemainder}
 use Rattle.fj_algebra.specs.ReducedBasis.{LeadsRise, AreReduced, IsReducedBasis}
 use Rattle.fj_algebra.specs.Finishing.{IsLeftOut, Kept, EndsIn, ReplacedInTurn, LeadsApart}
 use Rattle.fj_algebra.proofs.Ideal.{Member-subtract, Member-Inside, Member-same, Inside-Contains}
-use Rattle.fj_algebra.proofs.Lists.{contains_cons, contains_head, contains_tail, contains_nil, All-from_elements, AllPairs-head, AllPairs-tail}
+use Rattle.fj_algebra.proofs.Pairs.{contains_cons, contains_head, contains_tail, contains_nil, All-from_elements, AllPairs-head, AllPairs-tail}
 use Rattle.fj_algebra.proofs.Order.{trichotomy, below_irrefl, below_trans, not_below_multiple, Divides-refl, Divides-trans, order_induction, below_all}
 use Rattle.fj_algebra.proofs.Polynomial.{coefficient_subtract, subtract_zero, coefficient_outside, lead_from_monic, lead_unique}
 use Rattle.fj_algebra.proofs.Buchberger.{IsAtMost, at_most_lead, below_at_most, Supported-from_representation}

@@ -4,7 +4,7 @@ use Rattle.fj_algebra.specs.Ring.{CommutativeRing, subtract}
 use Rattle.fj_algebra.specs.Order.{IsBelow}
 use Rattle.fj_algebra.specs.Polynomial.{Field, PolynomialRing, OrderedPolynomials, IsLead, IsMonic, Supported}
 use Rattle.fj_algebra.proofs.Ring.{ring_laws, zero_mul, mul_zero, one_mul, add_cancel_left, neg_unique, add_zero}
-use Rattle.fj_algebra.proofs.Lists.{contains_cons}
+use Rattle.fj_algebra.proofs.Pairs.{contains_cons}
 use Rattle.fj_algebra.proofs.Order.{order_induction, trichotomy, below_trans, below_irrefl, times_cancel, one_times}
 
 -- The product of elements of a field that are not zero is not zero.
