@@ -1,5 +1,5 @@
 -- Gröbner bases by Buchberger's criterion.
-use Rattle.std.specs.Prelude.{◌≡◌, ◌≢◌, List}
+use Rattle.std.specs.Prelude.{◌≡◌, ◌≢◌, ℕ, List, Contains, slice_index_or}
 use Rattle.fj_algebra.specs.Ring.{subtract}
 use Rattle.fj_algebra.specs.Order.{Divides, IsBelow}
 use Rattle.fj_algebra.specs.Polynomial.{OrderedPolynomials, IsLead, IsMonic}
@@ -16,6 +16,10 @@ pub record AllMonic {K M A : Type 0} (P : OrderedPolynomials K M A) (S : A → T
 pub record Settled {K M A : Type 0} (P : OrderedPolynomials K M A) (S : A → Type 0) (g h : A) : Type 0 where
   pub below : (m n a b : M) → IsLead P g a → IsLead P h b → P.monomials.times m a ≡ P.monomials.times n b
       → Representation P S (λ e. IsBelow P.order e (P.monomials.times m a)) (subtract P.ring (P.ring.mul (P.term P.field.ring.one m) g) (P.ring.mul (P.term P.field.ring.one n) h))
+
+-- The pair of the members of the list at the places i and j is settled by the list.
+pub record SettledAt {K M A : Type 0} (P : OrderedPolynomials K M A) (G : List A) (i j : ℕ) : Type 0 where
+  pub pair : Settled P (Contains G) (slice_index_or G i P.ring.zero) (slice_index_or G j P.ring.zero)
 
 -- The remainder r that a treated pair leaves is zero, or a constant times a monic member of S.
 pub data TreatedRemainder {K M A : Type 0} (P : OrderedPolynomials K M A) (S : A → Type 0) (r : A) : Type 0 where
