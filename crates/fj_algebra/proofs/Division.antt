@@ -51,7 +51,7 @@ module _ {K M A : Type 0} (P : OrderedPolynomials K M A) where
           ∙ subtract_zero scalars (coefficient f d) ∙ l.top d u
 
   -- The scalar by which a multiple of g cancels the lead of f.
-  quotient_scalar : {g : A} {b : M} → IsLead P g b → (c : K) → scalars.mul (scalars.mul c (P.field.inverse (coefficient g b))) (coefficient g b) ≡ c
+  pub quotient_scalar : {g : A} {b : M} → IsLead P g b → (c : K) → scalars.mul (scalars.mul c (P.field.inverse (coefficient g b))) (coefficient g b) ≡ c
   quotient_scalar {g} {b} k c = regroup scalars c (P.field.inverse (coefficient g b)) (coefficient g b) ∙ ap (scalars.mul c) (P.field.mul_inverse (coefficient g b) k.nonzero) ∙ scalars.mul_one c
     where
       regroup : {K : Type 0} (R : CommutativeRing K) (c i d : K) → R.mul (R.mul c i) d ≡ R.mul c (R.mul d i)

@@ -1,7 +1,7 @@
 -- Pairs of elements of a list, and lists that a relation sorts.
-use Rattle.std.proofs.Common.{◌≡◌, zero, suc, List, [], ◌∷◌, get_or, Contains, All, ◌⊎◌, inl, inr, refl, sym, ap₂, ◌∙◌, subst, arith}
+use Rattle.std.proofs.Common.{ap, Bool, true, false, cond, filter, ◌≡◌, zero, suc, List, [], ◌∷◌, get_or, Contains, All, ◌⊎◌, inl, inr, refl, sym, ap₂, ◌∙◌, subst, arith}
 use Rattle.std.specs.List.{AllPairs}
-use Rattle.std.proofs.lemmas.List.Elements.{Contains-get_or}
+use Rattle.std.proofs.lemmas.List.Elements.{Contains-get_or, All-contains, All-filter, All-contains_itself, filter_passes}
 
 -- An element of a list is its head or in its tail.
 pub contains_cons : {X : Type 0} (x : X) (xs : List X) (y : X) → Contains (x ∷ xs) y → (x ≡ y) ⊎ Contains xs y
@@ -25,6 +25,9 @@ AllPairs-head R x xs p y (k, l, e) = subst (R x) e (p zero (suc k) y (omega arit
 
 pub AllPairs-tail : {X : Type 0} (R : X → X → Type 0) (x : X) (xs : List X) → AllPairs R (x ∷ xs) → AllPairs R xs
 AllPairs-tail R x xs p i j d h l = p (suc i) (suc j) d (omega arith) (omega arith)
+
+pub AllPairs-weaker : {X : Type 0} (R S : X → X → Type 0) (xs : List X) → ((x y : X) → Contains xs x → Contains xs y → R x y → S x y) → AllPairs R xs → AllPairs S xs
+AllPairs-weaker R S xs w p i j d l k = w (get_or xs i d) (get_or xs j d) (Contains-get_or xs i d (omega arith)) (Contains-get_or xs j d k) (p i j d l k)
 
 -- Two elements of a list are one, or one stands before the other.
 pub pair_of : {X : Type 0} (R : X → X → Type 0) (xs : List X) → AllPairs R xs → (x y : X) → Contains xs x → Contains xs y → (x ≡ y) ⊎ (R x y ⊎ R y x)
@@ -58,3 +61,17 @@ same_elements {X} R irreflexive asymmetric (x ∷ xs) (y ∷ ys) p q f g = ap₂
 
     up : (z : X) → Contains ys z → Contains xs z
     up z c = elim (contains_cons x xs z (g z (contains_tail y ys z c))) [ inl e ↦ absurd (irreflexive z (subst (λ y. R y z) (sym heads ∙ e) (AllPairs-head R y ys q z c))) | inr d ↦ d ]
+
+-- A filter keeps the elements that pass.
+pub filter_contains : {X : Type 0} (p : X → Bool) (xs : List X) (x : X) → Contains xs x → p x ≡ true → Contains (filter p xs) x
+filter_contains p [] x c t = absurd (contains_nil x c)
+filter_contains {X} p (y ∷ xs) x c t = go (p y) refl (contains_cons y xs x c) (λ d. filter_contains p xs x d t)
+  where
+    go : (b : Bool) → p y ≡ b → (y ≡ x) ⊎ Contains xs x → (Contains xs x → Contains (filter p xs) x) → Contains (cond b (y ∷ filter p xs) (filter p xs)) x
+    go true e (inl h) rest = subst (Contains (y ∷ filter p xs)) h (contains_head y (filter p xs))
+    go true e (inr d) rest = contains_tail y (filter p xs) x (rest d)
+    go false e (inl h) rest = absurd (let f = ap p h in cc)
+    go false e (inr d) rest = rest d
+
+pub contains_filter : {X : Type 0} (p : X → Bool) (xs : List X) (x : X) → Contains (filter p xs) x → Contains xs x × (p x ≡ true)
+contains_filter p xs x c = (All-contains (Contains xs) (filter p xs) x (All-filter p (Contains xs) xs (All-contains_itself xs)) c, All-contains (λ x. p x ≡ true) (filter p xs) x (filter_passes p xs) c)

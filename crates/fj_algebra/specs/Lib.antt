@@ -1,6 +1,7 @@
 pub mod Buchberger
 pub mod Colon
 pub mod Division
+pub mod Elimination
 pub mod Finishing
 pub mod Frobenius
 pub mod Ideal
@@ -14,3 +15,4 @@ pub mod Ring
 pub mod Root
 pub mod Splitting
 pub mod Sum
+pub mod Variable
