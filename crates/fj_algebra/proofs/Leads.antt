@@ -5,7 +5,7 @@ use Rattle.fj_algebra.specs.Order.{IsBelow}
 use Rattle.fj_algebra.specs.Polynomial.{OrderedPolynomials, IsLead, IsMonic}
 use Rattle.fj_algebra.proofs.Ring.{ring_laws, add_zero, mul_zero, add_mul, one_mul, equal_from_subtract}
 use Rattle.fj_algebra.proofs.Order.{below_irrefl, below_times, one_times}
-use Rattle.fj_algebra.proofs.Polynomial.{mul_nonzero, coefficient_outside, Supported-mul, without, with_term, under_without, lead_or_zero, lead_nonzero, is_zero, term_mul, term_one}
+use Rattle.fj_algebra.proofs.Polynomial.{mul_nonzero, coefficient_outside, Supported-mul, Supported-multiple, without, with_term, under_without, lead_or_zero, lead_nonzero, is_zero, term_mul, term_one}
 use Rattle.fj_algebra.proofs.Buchberger.{IsAtMost, at_most_lead, at_most_times, below_at_most}
 
 module _ {K M A : Type 0} (P : OrderedPolynomials K M A) where
@@ -38,6 +38,13 @@ module _ {K M A : Type 0} (P : OrderedPolynomials K M A) where
       at_most : (x y : M) → IsAtMost P x a → IsAtMost P y b → IsAtMost P (times x y) (times a b)
       at_most x y (inl l) n = inl (times_below x y a b l n)
       at_most x y (inr e) n = subst (λ a. IsAtMost P (times x y) (times a b)) e (at_most_times P x y b n)
+
+  -- The lead of a multiple by a monomial.
+  pub lead_multiple : {g : A} {b : M} (m : M) → IsLead P g b → IsLead P (mul (term scalars.one m) g) (times m b)
+  lead_multiple {g} {b} m k = record {
+    nonzero = λ z. k.nonzero (sym (one_mul scalars (coefficient g b)) ∙ sym (P.coefficient_multiple scalars.one m g b) ∙ z);
+    top = λ e l. coefficient_outside P.polynomials {B = λ e. IsAtMost P e (times m b)} (Supported-multiple P.polynomials scalars.one m (λ y w. at_most_times P m y b w) (at_most_lead P k.top)) e (λ w. below_irrefl order (below_at_most P e (times m b) e w l));
+  }
 
   -- The product of polynomials that are not zero is not zero.
   pub product_nonzero : {f g : A} → f ≢ 𝟘 → g ≢ 𝟘 → mul f g ≢ 𝟘

@@ -14,5 +14,6 @@ pub mod Representation
 pub mod Ring
 pub mod Root
 pub mod Splitting
+pub mod StrictSteps
 pub mod Sum
 pub mod Variable
