@@ -1,13 +1,13 @@
 -- Buchberger's criterion: where all pairs are settled, the leads of S divide the leads of all members of its ideal.
 use Rattle.std.proofs.Common.{◌≡◌, ◌≢◌, ◌⊎◌, inl, inr, sym, ap, ◌∙◌, subst}
 use Rattle.fj_algebra.specs.Ring.{CommutativeRing, subtract}
-use Rattle.fj_algebra.specs.Order.{IsBelow}
+use Rattle.fj_algebra.specs.Order.{IsAtMost, IsBelow}
 use Rattle.fj_algebra.specs.Polynomial.{OrderedPolynomials, IsLead, IsMonic, Supported}
 use Rattle.fj_algebra.specs.Representation.{Representation, nothing, more}
 use Rattle.fj_algebra.specs.Buchberger.{AllMonic, Settled, LeadIsReducible}
 use Rattle.fj_algebra.proofs.Ring.{ring_laws, zero_mul, add_zero, zero_add, add_mul}
-use Rattle.fj_algebra.proofs.Order.{trichotomy, below_trans, below_irrefl, below_times, order_induction}
-use Rattle.fj_algebra.proofs.Polynomial.{Supported-zero, Supported-add, Supported-multiple, coefficient_outside, term_add, term_zero, term_split, subtract_zero, lead_from_monic, lead_unique}
+use Rattle.fj_algebra.proofs.Order.{at_most_times, below_at_most, at_most_trans, trichotomy, below_trans, below_irrefl, order_induction}
+use Rattle.fj_algebra.proofs.Polynomial.{at_most_lead, Supported-zero, Supported-add, Supported-multiple, coefficient_outside, term_add, term_zero, term_split, subtract_zero, lead_from_monic, lead_unique}
 use Rattle.fj_algebra.proofs.Representation.{Representation-weaker, Representation-same, Representation-add, Representation-scale}
 
 module _ {A : Type 0} (R : CommutativeRing A) where
@@ -29,34 +29,13 @@ module _ {A : Type 0} (R : CommutativeRing A) where
 module _ {K M A : Type 0} (P : OrderedPolynomials K M A) where
   open P use {coefficient, term, ring.{zero as 𝟘, one as 𝟙, add, neg, mul}, field.ring as scalars, monomials.{one, times}, order}
 
-  -- a is at most b
-  abbrev pub IsAtMost : M → M → Type 0
-  IsAtMost a b = IsBelow order a b ⊎ (a ≡ b)
-
-  pub at_most_trans : (a b c : M) → IsAtMost a b → IsAtMost b c → IsAtMost a c
-  at_most_trans a b c (inl h) (inl k) = inl (below_trans order h k)
-  at_most_trans a b c (inl h) (inr e) = inl (subst (IsBelow order a) e h)
-  at_most_trans a b c (inr e) h = subst (λ a. IsAtMost a c) (sym e) h
-
-  pub at_most_times : (m a b : M) → IsAtMost a b → IsAtMost (times m a) (times m b)
-  at_most_times m a b (inl h) = inl (below_times order m h)
-  at_most_times m a b (inr e) = inr (ap (times m) e)
-
-  pub below_at_most : (a b c : M) → IsAtMost a b → IsBelow order b c → IsBelow order a c
-  below_at_most a b c (inl h) k = below_trans order h k
-  below_at_most a b c (inr e) k = subst (λ a. IsBelow order a c) (sym e) k
-
-  -- The monomials of a polynomial are at most its lead.
-  pub at_most_lead : {f : A} {a : M} → ((b : M) → IsBelow order a b → coefficient f b ≡ scalars.zero) → Supported P.polynomials (λ b. IsAtMost b a) f
-  at_most_lead {f} {a} top = record { within = λ b n. elim (trichotomy order b a) [ inl l ↦ inl l | inr (inl e) ↦ inr e | inr (inr l) ↦ absurd (n (top b l)) ] }
-
   -- A sum of multiples with heights below d has its monomials below d.
   pub Supported-from_representation : {S : A → Type 0} {d : M} {h : A} → AllMonic P S → Representation P S (λ e. IsBelow order e d) h → Supported P.polynomials (λ e. IsBelow order e d) h
   Supported-from_representation {d = d} monic (nothing e) = subst (Supported P.polynomials (λ e. IsBelow order e d)) (sym e) (Supported-zero P.polynomials (λ e. IsBelow order e d))
   Supported-from_representation {d = d} monic (more {rest = rest} c m g s b r e) = subst (Supported P.polynomials (λ e. IsBelow order e d)) (sym e) (Supported-add P.polynomials (multiple (monic.lead g s)) (Supported-from_representation monic r))
     where
       multiple : (a : M) × IsMonic P g a → Supported P.polynomials (λ e. IsBelow order e d) (mul (term c m) g)
-      multiple (a, is) = Supported-multiple P.polynomials c m (λ b' k. below_at_most (times m b') (times m a) d (at_most_times m b' a k) (b a (lead_from_monic P is))) (at_most_lead is.top)
+      multiple (a, is) = Supported-multiple P.polynomials c m (λ b' k. below_at_most order (times m b') (times m a) d (at_most_times order m b' a k) (b a (lead_from_monic P is))) (at_most_lead P is.top)
 
   scaled : (c : K) (m : M) (g : A) → mul (term c m) g ≡ mul (term c one) (mul (term scalars.one m) g)
   scaled c m g = ap (λ t. mul t g) (term_split P c m) ∙ P.ring.mul_assoc (term c one) (term scalars.one m) g
@@ -78,7 +57,7 @@ module _ {K M A : Type 0} (P : OrderedPolynomials K M A) where
 
   module _ {S : A → Type 0} (monic : AllMonic P S) (settled : (g h : A) → S g → S h → Settled P S g h) where
     -- the multiples of height d are joined to one
-    collect : {d : M} {h : A} → Representation P S (λ e. IsAtMost e d) h → Representation P S (λ e. IsBelow order e d) h ⊎ HasTop S d h
+    collect : {d : M} {h : A} → Representation P S (λ e. IsAtMost order e d) h → Representation P S (λ e. IsBelow order e d) h ⊎ HasTop S d h
     collect (nothing e) = inl (nothing e)
     collect {d} {h} (more {rest = rest} c m g s b r e) = go (monic.lead g s) (collect r)
       where
@@ -137,7 +116,7 @@ module _ {K M A : Type 0} (P : OrderedPolynomials K M A) where
         first_at = ap (coefficient (mul (term t.scalar t.monomial) t.member)) (sym t.height) ∙ P.coefficient_multiple t.scalar t.monomial t.member t.lead ∙ ap (scalars.mul t.scalar) t.is_monic.monic ∙ scalars.mul_one t.scalar
 
         first_above : (b : M) → IsBelow order d b → coefficient first b ≡ scalars.zero
-        first_above b l = coefficient_outside P.polynomials {B = λ e. IsAtMost e (times t.monomial t.lead)} (Supported-multiple P.polynomials t.scalar t.monomial (λ b k. at_most_times t.monomial b t.lead k) (at_most_lead t.is_monic.top)) b (λ k. below_irrefl order (below_at_most b (times t.monomial t.lead) b k (subst (λ d. IsBelow order d b) (sym t.height) l)))
+        first_above b l = coefficient_outside P.polynomials {B = λ e. IsAtMost order e (times t.monomial t.lead)} (Supported-multiple P.polynomials t.scalar t.monomial (λ b k. at_most_times order t.monomial b t.lead k) (at_most_lead P t.is_monic.top)) b (λ k. below_irrefl order (below_at_most order b (times t.monomial t.lead) b k (subst (λ d. IsBelow order d b) (sym t.height) l)))
 
         is_lead : IsLead P h d
         is_lead = record {
@@ -146,20 +125,20 @@ module _ {K M A : Type 0} (P : OrderedPolynomials K M A) where
         }
 
     -- the greatest height
-    greatest_height : {B : M → Type 0} {h : A} → Representation P S B h → (h ≡ 𝟘) ⊎ ((d : M) × B d × Representation P S (λ e. IsAtMost e d) h)
+    greatest_height : {B : M → Type 0} {h : A} → Representation P S B h → (h ≡ 𝟘) ⊎ ((d : M) × B d × Representation P S (λ e. IsAtMost order e d) h)
     greatest_height (nothing e) = inl e
     greatest_height {B} {h} (more {rest = rest} c m g s b r e) = go (monic.lead g s) (greatest_height r)
       where
-        go : (a : M) × IsMonic P g a → (rest ≡ 𝟘) ⊎ ((d : M) × B d × Representation P S (λ e. IsAtMost e d) rest) → (h ≡ 𝟘) ⊎ ((d : M) × B d × Representation P S (λ e. IsAtMost e d) h)
+        go : (a : M) × IsMonic P g a → (rest ≡ 𝟘) ⊎ ((d : M) × B d × Representation P S (λ e. IsAtMost order e d) rest) → (h ≡ 𝟘) ⊎ ((d : M) × B d × Representation P S (λ e. IsAtMost order e d) h)
         go (a, is) (inl z) = inr (times m a, b a (lead_from_monic P is), more c m g s (λ b k. inr (ap (times m) (lead_unique P k (lead_from_monic P is)))) (nothing z) e)
         go (a, is) (inr (d, w, t)) = elim (trichotomy order (times m a) d) [
           | inl l ↦ inr (d, w, more c m g s (λ b k. inl (subst (λ b. IsBelow order (times m b) d) (lead_unique P (lead_from_monic P is) k) l)) t e)
           | inr (inl l) ↦ inr (d, w, more c m g s (λ b k. inr (ap (times m) (lead_unique P k (lead_from_monic P is)) ∙ l)) t e)
-          | inr (inr l) ↦ inr (times m a, b a (lead_from_monic P is), more c m g s (λ b k. inr (ap (times m) (lead_unique P k (lead_from_monic P is)))) (Representation-weaker P (λ g s. s) (λ e k. at_most_trans e d (times m a) k (inl l)) t) e)
+          | inr (inr l) ↦ inr (times m a, b a (lead_from_monic P is), more c m g s (λ b k. inr (ap (times m) (lead_unique P k (lead_from_monic P is)))) (Representation-weaker P (λ g s. s) (λ e k. at_most_trans order e d (times m a) k (inl l)) t) e)
         ]
 
-    at_height : (d : M) {h : A} → Representation P S (λ e. IsAtMost e d) h → (h ≡ 𝟘) ⊎ LeadIsReducible P S h
-    at_height d r = order_induction order (λ d. (h : A) → Representation P S (λ e. IsAtMost e d) h → (h ≡ 𝟘) ⊎ LeadIsReducible P S h) (λ d lower h r. elim (collect r) [ inr t ↦ inr (top_lead t) | inl u ↦ elim (greatest_height u) [ inl z ↦ inl z | inr (e, l, v) ↦ lower e l h v ] ]) d _ r
+    at_height : (d : M) {h : A} → Representation P S (λ e. IsAtMost order e d) h → (h ≡ 𝟘) ⊎ LeadIsReducible P S h
+    at_height d r = order_induction order (λ d. (h : A) → Representation P S (λ e. IsAtMost order e d) h → (h ≡ 𝟘) ⊎ LeadIsReducible P S h) (λ d lower h r. elim (collect r) [ inr t ↦ inr (top_lead t) | inl u ↦ elim (greatest_height u) [ inl z ↦ inl z | inr (e, l, v) ↦ lower e l h v ] ]) d _ r
 
     -- Buchberger's criterion: where all pairs are settled, a polynomial that is represented is zero or has a lead that a lead of S divides.
     pub buchberger : {B : M → Type 0} {h : A} → Representation P S B h → (h ≡ 𝟘) ⊎ LeadIsReducible P S h

@@ -1,7 +1,7 @@
 -- When a pair is settled: by a representation at the least common multiple, by coprime leads, through a third member.
 use Rattle.std.proofs.Common.{ℕ, ◌<◌, [], ◌∷◌, ◌++◌, length, subst₂, arith, List, Contains, ◌⊎◌, inl, inr, ◌≡◌, refl, sym, ap, ◌∙◌, subst}
 use Rattle.fj_algebra.specs.Ring.{CommutativeRing, subtract}
-use Rattle.fj_algebra.specs.Order.{Divides, IsBelow, IsLeastCommonMultiple}
+use Rattle.fj_algebra.specs.Order.{IsAtMost, Divides, IsBelow, IsLeastCommonMultiple}
 use Rattle.fj_algebra.specs.Polynomial.{OrderedPolynomials, IsLead, IsMonic, Supported}
 use Rattle.fj_algebra.specs.Representation.{Representation, nothing}
 use Rattle.fj_algebra.specs.Buchberger.{AllMonic, Settled, SettledAt, CoversLeads, TreatedRemainder, vanishes, appended}
@@ -12,11 +12,11 @@ use Rattle.std.proofs.lemmas.List.{get_or_default, get_or_append_left}
 use Rattle.std.proofs.lemmas.List.Elements.{Contains-append_left}
 use Rattle.fj_algebra.proofs.Pairs.{pair_of}
 use Rattle.fj_algebra.proofs.Ideal.{Member-Inside}
-use Rattle.fj_algebra.proofs.Buchberger.{IsAtMost, at_most_lead, at_most_times, below_at_most, Supported-from_representation, buchberger}
+use Rattle.fj_algebra.proofs.Buchberger.{Supported-from_representation, buchberger}
 use Rattle.fj_algebra.proofs.Division.{under_cancel, division_representation, difference_back, restore}
 use Rattle.fj_algebra.proofs.Ring.{ring_laws, subtract_self, zero_mul}
-use Rattle.fj_algebra.proofs.Order.{below_times, below_irrefl, times_cancel, times_left_comm, one_times}
-use Rattle.fj_algebra.proofs.Polynomial.{without, with_term, under_without, monic_term_mul, term_zero, lead_from_monic, lead_unique, lead_or_zero, coefficient_outside, Supported-multiple, Supported-subtract}
+use Rattle.fj_algebra.proofs.Order.{at_most_times, below_at_most, below_times, below_irrefl, times_cancel, times_left_comm, one_times}
+use Rattle.fj_algebra.proofs.Polynomial.{at_most_lead, without, with_term, under_without, monic_term_mul, term_zero, lead_from_monic, lead_unique, lead_or_zero, coefficient_outside, Supported-multiple, Supported-subtract}
 use Rattle.fj_algebra.proofs.Representation.{Representation-weaker, Representation-same, Representation-add, Representation-subtract, Representation-neg, Representation-multiple, Representation-product, Representation-single, representation_from_Member}
 
 module _ {A : Type 0} (R : CommutativeRing A) where
@@ -111,7 +111,7 @@ module _ {K M A : Type 0} (P : OrderedPolynomials K M A) where
       is_lead : IsLead P (mul (term scalars.one m) g) c
       is_lead = record {
         nonzero = λ z. P.field.one_is_not_zero (sym at_lead ∙ z);
-        top = λ f l. coefficient_outside P.polynomials {B = λ e. IsAtMost P e (times m a)} (Supported-multiple P.polynomials scalars.one m (λ f k. at_most_times P m f a k) (at_most_lead P is.top)) f (λ k. below_irrefl order (below_at_most P f (times m a) f k (subst (λ c. IsBelow order c f) (sym e) l)));
+        top = λ f l. coefficient_outside P.polynomials {B = λ e. IsAtMost order e (times m a)} (Supported-multiple P.polynomials scalars.one m (λ f k. at_most_times order m f a k) (at_most_lead P is.top)) f (λ k. below_irrefl order (below_at_most order f (times m a) f k (subst (λ c. IsBelow order c f) (sym e) l)));
       }
 
   -- A pair is settled by dividing its difference at the least common multiple of the leads by members of S, where the
@@ -126,7 +126,7 @@ module _ {K M A : Type 0} (P : OrderedPolynomials K M A) where
       under : Supported P.polynomials (λ e. IsBelow order e c) difference
       under = difference_under m n is is' e d
 
-      left : (f : M) → IsBelow order f c → Supported P.polynomials (λ e. IsAtMost P e f) difference → TreatedRemainder P S t.remainder → Representation P S (λ e. IsBelow order e c) t.remainder
+      left : (f : M) → IsBelow order f c → Supported P.polynomials (λ e. IsAtMost order e f) difference → TreatedRemainder P S t.remainder → Representation P S (λ e. IsBelow order e c) t.remainder
       left f l w (vanishes z) = nothing z
       left f l w (appended u k x s q i) = elim (P.field.is_zero u) [
         | yes z ↦ nothing (i ∙ ap (λ u. mul (term u one) k) z ∙ ap (λ v. mul v k) (term_zero P one) ∙ zero_mul P.ring k)
@@ -134,11 +134,11 @@ module _ {K M A : Type 0} (P : OrderedPolynomials K M A) where
       ]
         where
           remainder_under : Supported P.polynomials (λ e. IsBelow order e c) t.remainder
-          remainder_under = subst (Supported P.polynomials (λ e. IsBelow order e c)) (sym (difference_back P.ring difference t.remainder)) (Supported-subtract P.polynomials under (Supported-from_representation P monic (Representation-weaker P (λ _ o. o) (λ e o. below_at_most P e f c o l) (division_representation P f w division))))
+          remainder_under = subst (Supported P.polynomials (λ e. IsBelow order e c)) (sym (difference_back P.ring difference t.remainder)) (Supported-subtract P.polynomials under (Supported-from_representation P monic (Representation-weaker P (λ _ o. o) (λ e o. below_at_most order e f c o l) (division_representation P f w division))))
 
       represented : (difference ≡ 𝟘) ⊎ ((f : M) × IsLead P difference f) → Representation P S (λ e. IsBelow order e c) difference
       represented (inl z) = nothing z
-      represented (inr (f, k)) = Representation-same P (restore P.ring difference t.remainder) (Representation-add P (Representation-weaker P inside (λ e o. below_at_most P e f c o (under.within f k.nonzero)) (division_representation P f (at_most_lead P k.top) division)) (left f (under.within f k.nonzero) (at_most_lead P k.top) remains))
+      represented (inr (f, k)) = Representation-same P (restore P.ring difference t.remainder) (Representation-add P (Representation-weaker P inside (λ e o. below_at_most order e f c o (under.within f k.nonzero)) (division_representation P f (at_most_lead P k.top) division)) (left f (under.within f k.nonzero) (at_most_lead P k.top) remains))
 
   -- Pairs in the order of the list are enough.
   pub settled_pairs : (G : List A) → AllPairs (Settled P (Contains G)) G → (g h : A) → Contains G g → Contains G h → Settled P (Contains G) g h

@@ -3,7 +3,7 @@ use Rattle.std.proofs.Common.{◌≡◌, ℕ, zero, suc, ◌<◌, List, [], ◌�
 use Rattle.std.proofs.lemmas.List.{length-replicate}
 use Rattle.fj_algebra.specs.Ring.{CommutativeRing, subtract}
 use Rattle.fj_algebra.specs.Ideal.{Member, Inside, list_combination}
-use Rattle.fj_algebra.specs.Order.{Divides, IsBelow}
+use Rattle.fj_algebra.specs.Order.{IsAtMost, Divides, IsBelow}
 use Rattle.fj_algebra.specs.Polynomial.{OrderedPolynomials, IsLead, Supported}
 use Rattle.fj_algebra.specs.Representation.{Representation, nothing, more}
 use Rattle.fj_algebra.specs.Buchberger.{IsReducible, LeadIsReducible, CoversLeads}
@@ -11,9 +11,8 @@ use Rattle.fj_algebra.specs.Division.{IsReduced, IsRemainder, DivisionState, Can
 use Rattle.fj_algebra.proofs.Ring.{ring_laws, add_zero, zero_add, zero_mul, add_left_comm, subtract_self}
 use Rattle.fj_algebra.proofs.Ideal.{Member-zero, Member-add, Member-mul, Member-same, Member-subtract, Member-Contains, Member-Inside, Inside-from, Member-from_list}
 use Rattle.fj_algebra.proofs.Pairs.{contains_cons}
-use Rattle.fj_algebra.proofs.Order.{trichotomy, below_irrefl}
-use Rattle.fj_algebra.proofs.Polynomial.{subtract_zero, coefficient_subtract, Supported-zero, Supported-add, Supported-weaker, Supported-term, Supported-multiple, Supported-without, coefficient_outside, without, under_without, lead_unique, lead_nonzero, lead_or_zero, lead_induction, is_zero}
-use Rattle.fj_algebra.proofs.Buchberger.{IsAtMost, at_most_lead, at_most_times, at_most_trans, below_at_most}
+use Rattle.fj_algebra.proofs.Order.{at_most_times, at_most_trans, below_at_most, trichotomy, below_irrefl}
+use Rattle.fj_algebra.proofs.Polynomial.{at_most_lead, subtract_zero, coefficient_subtract, Supported-zero, Supported-add, Supported-weaker, Supported-term, Supported-multiple, Supported-without, coefficient_outside, without, under_without, lead_unique, lead_nonzero, lead_or_zero, lead_induction, is_zero}
 use Rattle.fj_algebra.proofs.Representation.{Representation-same}
 
 module _ {A : Type 0} (R : CommutativeRing A) where
@@ -47,7 +46,7 @@ module _ {K M A : Type 0} (P : OrderedPolynomials K M A) where
 
       above : (d : M) → IsBelow order a d → coefficient (subtract P.ring f (mul (term c m) g)) d ≡ scalars.zero
       above d u = coefficient_subtract P.polynomials f (mul (term c m) g) d
-          ∙ ap (subtract scalars (coefficient f d)) (coefficient_outside P.polynomials {B = λ e. IsAtMost P e (times m b)} (Supported-multiple P.polynomials c m (λ e w. at_most_times P m e b w) (at_most_lead P k.top)) d (λ w. below_irrefl order (below_at_most P d (times m b) d w (subst (λ a. IsBelow order a d) (sym h) u))))
+          ∙ ap (subtract scalars (coefficient f d)) (coefficient_outside P.polynomials {B = λ e. IsAtMost order e (times m b)} (Supported-multiple P.polynomials c m (λ e w. at_most_times order m e b w) (at_most_lead P k.top)) d (λ w. below_irrefl order (below_at_most order d (times m b) d w (subst (λ a. IsBelow order a d) (sym h) u))))
           ∙ subtract_zero scalars (coefficient f d) ∙ l.top d u
 
   -- The scalar by which a multiple of g cancels the lead of f.
@@ -186,17 +185,17 @@ module _ {K M A : Type 0} (P : OrderedPolynomials K M A) where
       drop_last R q r = simp (subtract, ring_laws)
 
   -- What a run takes from the dividend is a sum of multiples whose heights are at most the monomials of the dividend.
-  run_representation : {G : List A} {t s : DivisionState A} (d : M) → Supported P.polynomials (λ e. IsAtMost P e d) s.dividend → DivisionRun P G t s → Representation P (Contains G) (λ e. IsAtMost P e d) (subtract P.ring (add s.dividend s.remainder) (add t.dividend t.remainder))
+  run_representation : {G : List A} {t s : DivisionState A} (d : M) → Supported P.polynomials (λ e. IsAtMost order e d) s.dividend → DivisionRun P G t s → Representation P (Contains G) (λ e. IsAtMost order e d) (subtract P.ring (add s.dividend s.remainder) (add t.dividend t.remainder))
   run_representation {t = t} d w (done i) = nothing (ap (λ s. subtract P.ring (add s.dividend s.remainder) (add t.dividend t.remainder)) i ∙ subtract_self P.ring (add t.dividend t.remainder))
-  run_representation {G} {t} {s} d w (step {u = u} (inl c) r) = more c.scalar c.monomial c.divisor (c.place, c.in_list, c.is_divisor) (λ a k. subst (λ e. IsAtMost P e d) (sym (ap (times c.monomial) (lead_unique P k c.is_divisor_lead) ∙ c.height)) at_lead) (run_representation d (subst (Supported P.polynomials (λ e. IsAtMost P e d)) (sym c.dividend) (Supported-weaker P.polynomials (λ e l. at_most_trans P e c.lead d (inl l) at_lead) (under_cancel c.is_lead c.is_divisor_lead c.height c.cancels))) r)
+  run_representation {G} {t} {s} d w (step {u = u} (inl c) r) = more c.scalar c.monomial c.divisor (c.place, c.in_list, c.is_divisor) (λ a k. subst (λ e. IsAtMost order e d) (sym (ap (times c.monomial) (lead_unique P k c.is_divisor_lead) ∙ c.height)) at_lead) (run_representation d (subst (Supported P.polynomials (λ e. IsAtMost order e d)) (sym c.dividend) (Supported-weaker P.polynomials (λ e l. at_most_trans order e c.lead d (inl l) at_lead) (under_cancel c.is_lead c.is_divisor_lead c.height c.cancels))) r)
       (taken P.ring (add t.dividend t.remainder) s.dividend s.remainder (mul (term c.scalar c.monomial) c.divisor) ∙ rw (c.dividend, c.remainder))
     where
-      at_lead : IsAtMost P c.lead d
+      at_lead : IsAtMost order c.lead d
       at_lead = w.within c.lead c.is_lead.nonzero
 
       taken : {A : Type 0} (R : CommutativeRing A) (v p r t : A) → subtract R (R.add p r) v ≡ R.add t (subtract R (R.add (subtract R p t) r) v)
       taken R v p r t = simp (subtract, ring_laws)
-  run_representation {G} {t} {s} d w (step {u = u} (inr m) r) = Representation-same P (taken P.ring (add t.dividend t.remainder) s.dividend s.remainder (term (coefficient s.dividend m.lead) m.lead) ∙ rw (m.dividend, m.remainder)) (run_representation d (subst (Supported P.polynomials (λ e. IsAtMost P e d)) (sym m.dividend) (Supported-without P m.lead w)) r)
+  run_representation {G} {t} {s} d w (step {u = u} (inr m) r) = Representation-same P (taken P.ring (add t.dividend t.remainder) s.dividend s.remainder (term (coefficient s.dividend m.lead) m.lead) ∙ rw (m.dividend, m.remainder)) (run_representation d (subst (Supported P.polynomials (λ e. IsAtMost order e d)) (sym m.dividend) (Supported-without P m.lead w)) r)
     where
       taken : {A : Type 0} (R : CommutativeRing A) (v p r t : A) → subtract R (R.add p r) v ≡ subtract R (R.add (subtract R p t) (R.add r t)) v
       taken R v p r t = ap (λ u. subtract R u v) (move R p r t)
@@ -205,5 +204,5 @@ module _ {K M A : Type 0} (P : OrderedPolynomials K M A) where
           move R d r t = simp ring_laws
 
   -- The difference of h and its remainder is a sum of multiples whose heights are at most the lead of h.
-  pub division_representation : {G : List A} {h : A} {t : DivisionState A} (d : M) → Supported P.polynomials (λ e. IsAtMost P e d) h → IsDivision P G h t → Representation P (Contains G) (λ e. IsAtMost P e d) (subtract P.ring h t.remainder)
+  pub division_representation : {G : List A} {h : A} {t : DivisionState A} (d : M) → Supported P.polynomials (λ e. IsAtMost order e d) h → IsDivision P G h t → Representation P (Contains G) (λ e. IsAtMost order e d) (subtract P.ring h t.remainder)
   division_representation {h = h} {t = t} d w v = Representation-same P (sym (ap (λ u. subtract P.ring u (add t.dividend t.remainder)) (add_zero P.ring h) ∙ ap (subtract P.ring h) (ap (λ u. add u t.remainder) v.finished ∙ zero_add P.ring t.remainder))) (run_representation d w v.run)

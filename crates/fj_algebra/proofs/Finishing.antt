@@ -5,7 +5,7 @@ use Rattle.std.proofs.lemmas.List.Elements.{Contains-get_or, Contains-append_lef
 use Rattle.std.proofs.lemmas.List.Quantifiers.{all_pairs_push}
 use Rattle.fj_algebra.specs.Ring.{subtract}
 use Rattle.fj_algebra.specs.Ideal.{Member, Inside}
-use Rattle.fj_algebra.specs.Order.{Divides, IsBelow}
+use Rattle.fj_algebra.specs.Order.{IsAtMost, Divides, IsBelow}
 use Rattle.fj_algebra.specs.Polynomial.{OrderedPolynomials, IsLead, IsMonic, Supported}
 use Rattle.fj_algebra.specs.Representation.{Representation, nothing, more}
 use Rattle.fj_algebra.specs.Buchberger.{AllMonic, IsReducible, LeadIsReducible, CoversLeads}
@@ -14,9 +14,9 @@ use Rattle.fj_algebra.specs.ReducedBasis.{LeadsRise, AreReduced, IsReducedBasis}
 use Rattle.fj_algebra.specs.Finishing.{IsLeftOut, Kept, EndsIn, ReplacedInTurn, LeadsApart}
 use Rattle.fj_algebra.proofs.Ideal.{Member-subtract, Member-Inside, Member-same, Inside-Contains}
 use Rattle.fj_algebra.proofs.Pairs.{contains_cons, contains_head, contains_tail, contains_nil, All-from_elements, AllPairs-head, AllPairs-tail}
-use Rattle.fj_algebra.proofs.Order.{trichotomy, below_irrefl, below_trans, not_below_multiple, Divides-refl, Divides-trans, order_induction, below_all}
-use Rattle.fj_algebra.proofs.Polynomial.{coefficient_subtract, subtract_zero, coefficient_outside, lead_from_monic, lead_unique}
-use Rattle.fj_algebra.proofs.Buchberger.{IsAtMost, at_most_lead, below_at_most, Supported-from_representation}
+use Rattle.fj_algebra.proofs.Order.{below_at_most, trichotomy, below_irrefl, below_trans, not_below_multiple, Divides-refl, Divides-trans, order_induction, below_all}
+use Rattle.fj_algebra.proofs.Polynomial.{at_most_lead, coefficient_subtract, subtract_zero, coefficient_outside, lead_from_monic, lead_unique}
+use Rattle.fj_algebra.proofs.Buchberger.{Supported-from_representation}
 use Rattle.fj_algebra.proofs.Division.{division_remainder, division_representation, difference_back}
 
 module _ {K M A : Type 0} (P : OrderedPolynomials K M A) where
@@ -53,12 +53,12 @@ module _ {K M A : Type 0} (P : OrderedPolynomials K M A) where
   remainder_monic : {G : List A} {m r : A} {a : M} → AllMonic P (Contains G) → IsMonic P m a → ((g : A) (b : M) → Contains G g → IsLead P g b → Divides P.monomials b a → ⊥) → EndsIn P G m r → IsMonic P r a
   remainder_monic {G} {m} {r} {a} monic is apart ends = record { monic = at a (below_irrefl order) ∙ is.monic; top = λ b l. at b (λ k. below_irrefl order (below_trans order k l)) ∙ is.top b l }
     where
-      bounded : {h : A} → Representation P (Contains G) (λ e. IsAtMost P e a) h → Representation P (Contains G) (λ e. IsBelow order e a) h
+      bounded : {h : A} → Representation P (Contains G) (λ e. IsAtMost order e a) h → Representation P (Contains G) (λ e. IsBelow order e a) h
       bounded (nothing e) = nothing e
       bounded (more c n g s w rest e) = more c n g s (λ b k. elim (w b k) [ inl l ↦ l | inr i ↦ absurd (apart g b s k (record { quotient = n; product = P.monomials.times_comm b n ∙ i })) ]) (bounded rest) e
 
       under : Supported P.polynomials (λ e. IsBelow order e a) (subtract P.ring m r)
-      under = Supported-from_representation P monic (bounded (subst (λ r. Representation P (Contains G) (λ e. IsAtMost P e a) (subtract P.ring m r)) ends.remainder (division_representation P a (at_most_lead P is.top) ends.division)))
+      under = Supported-from_representation P monic (bounded (subst (λ r. Representation P (Contains G) (λ e. IsAtMost order e a) (subtract P.ring m r)) ends.remainder (division_representation P a (at_most_lead P is.top) ends.division)))
 
       at : (b : M) → (IsBelow order b a → ⊥) → coefficient r b ≡ coefficient m b
       at b n = ap (λ r. coefficient r b) (difference_back P.ring m r) ∙ coefficient_subtract P.polynomials m (subtract P.ring m r) b ∙ ap (subtract scalars (coefficient m b)) (coefficient_outside P.polynomials under b n) ∙ subtract_zero scalars (coefficient m b)
@@ -112,7 +112,7 @@ module _ {K M A : Type 0} (P : OrderedPolynomials K M A) where
     }
       where
         monomial_below : (x : M) → coefficient g x ≢ scalars.zero → (y : M) → IsLead P m y → IsBelow order x y
-        monomial_below x n y l = let is = b.monic.lead g c in below_at_most P x is.0 y ((at_most_lead P is.1.top).within x n) ((b.next_rising g m c (contains_head m ms)).below is.0 y (lead_from_monic P is.1) l)
+        monomial_below x n y l = let is = b.monic.lead g c in below_at_most order x is.0 y ((at_most_lead P is.1.top).within x n) ((b.next_rising g m c (contains_head m ms)).below is.0 y (lead_from_monic P is.1) l)
 
     between : Between L (before ++ (r ∷ [])) ms
     between = record {

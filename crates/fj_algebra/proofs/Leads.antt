@@ -1,24 +1,23 @@
 -- Leads of products, cancellation, and polynomials made monic.
 use Rattle.std.proofs.Common.{◌≡◌, ◌≢◌, inl, inr, sym, ap, ◌∙◌, subst}
 use Rattle.fj_algebra.specs.Ring.{CommutativeRing, subtract}
-use Rattle.fj_algebra.specs.Order.{IsBelow}
+use Rattle.fj_algebra.specs.Order.{IsAtMost, IsBelow}
 use Rattle.fj_algebra.specs.Polynomial.{OrderedPolynomials, IsLead, IsMonic}
 use Rattle.fj_algebra.proofs.Ring.{ring_laws, add_zero, mul_zero, add_mul, one_mul, equal_from_subtract}
-use Rattle.fj_algebra.proofs.Order.{below_irrefl, below_times, one_times}
-use Rattle.fj_algebra.proofs.Polynomial.{mul_nonzero, coefficient_outside, Supported-mul, Supported-multiple, without, with_term, under_without, lead_or_zero, lead_nonzero, is_zero, term_mul, term_one}
-use Rattle.fj_algebra.proofs.Buchberger.{IsAtMost, at_most_lead, at_most_times, below_at_most}
+use Rattle.fj_algebra.proofs.Order.{at_most_times, below_at_most, below_irrefl, below_times, one_times}
+use Rattle.fj_algebra.proofs.Polynomial.{at_most_lead, mul_nonzero, coefficient_outside, Supported-mul, Supported-multiple, without, with_term, under_without, lead_or_zero, lead_nonzero, is_zero, term_mul, term_one}
 
 module _ {K M A : Type 0} (P : OrderedPolynomials K M A) where
   open P use {coefficient, term, ring.{zero as 𝟘, one as 𝟙, add, neg, mul}, field.ring as scalars, monomials.{one, times}, order}
 
-  times_below : (x y a b : M) → IsBelow order x a → IsAtMost P y b → IsBelow order (times x y) (times a b)
-  times_below x y a b h k = below_at_most_right (at_most_times P x y b k)
+  times_below : (x y a b : M) → IsBelow order x a → IsAtMost order y b → IsBelow order (times x y) (times a b)
+  times_below x y a b h k = below_at_most_right (at_most_times order x y b k)
     where
       right : IsBelow order (times x b) (times a b)
       right = subst (λ c. IsBelow order c (times a b)) (P.monomials.times_comm b x) (subst (IsBelow order (times b x)) (P.monomials.times_comm b a) (below_times order b h))
 
-      below_at_most_right : IsAtMost P (times x y) (times x b) → IsBelow order (times x y) (times a b)
-      below_at_most_right l = below_at_most P (times x y) (times x b) (times a b) l right
+      below_at_most_right : IsAtMost order (times x y) (times x b) → IsBelow order (times x y) (times a b)
+      below_at_most_right l = below_at_most order (times x y) (times x b) (times a b) l right
 
   -- The leading coefficient of a product is the product of the leading coefficients.
   pub coefficient_product : {f g : A} {a b : M} → IsLead P f a → IsLead P g b → coefficient (mul f g) (times a b) ≡ scalars.mul (coefficient f a) (coefficient g b)
@@ -32,18 +31,18 @@ module _ {K M A : Type 0} (P : OrderedPolynomials K M A) where
   pub lead_product : {f g : A} {a b : M} → IsLead P f a → IsLead P g b → IsLead P (mul f g) (times a b)
   lead_product {f} {g} {a} {b} h k = record {
     nonzero = λ z. mul_nonzero P.field (coefficient f a) (coefficient g b) h.nonzero k.nonzero (sym (coefficient_product h k) ∙ z);
-    top = λ e l. coefficient_outside P.polynomials {B = λ e. IsAtMost P e (times a b)} (Supported-mul P (λ x y m n. at_most x y m n) (at_most_lead P h.top) (at_most_lead P k.top)) e (λ m. below_irrefl order (below_at_most P e (times a b) e m l));
+    top = λ e l. coefficient_outside P.polynomials {B = λ e. IsAtMost order e (times a b)} (Supported-mul P (λ x y m n. at_most x y m n) (at_most_lead P h.top) (at_most_lead P k.top)) e (λ m. below_irrefl order (below_at_most order e (times a b) e m l));
   }
     where
-      at_most : (x y : M) → IsAtMost P x a → IsAtMost P y b → IsAtMost P (times x y) (times a b)
+      at_most : (x y : M) → IsAtMost order x a → IsAtMost order y b → IsAtMost order (times x y) (times a b)
       at_most x y (inl l) n = inl (times_below x y a b l n)
-      at_most x y (inr e) n = subst (λ a. IsAtMost P (times x y) (times a b)) e (at_most_times P x y b n)
+      at_most x y (inr e) n = subst (λ a. IsAtMost order (times x y) (times a b)) e (at_most_times order x y b n)
 
   -- The lead of a multiple by a monomial.
   pub lead_multiple : {g : A} {b : M} (m : M) → IsLead P g b → IsLead P (mul (term scalars.one m) g) (times m b)
   lead_multiple {g} {b} m k = record {
     nonzero = λ z. k.nonzero (sym (one_mul scalars (coefficient g b)) ∙ sym (P.coefficient_multiple scalars.one m g b) ∙ z);
-    top = λ e l. coefficient_outside P.polynomials {B = λ e. IsAtMost P e (times m b)} (Supported-multiple P.polynomials scalars.one m (λ y w. at_most_times P m y b w) (at_most_lead P k.top)) e (λ w. below_irrefl order (below_at_most P e (times m b) e w l));
+    top = λ e l. coefficient_outside P.polynomials {B = λ e. IsAtMost order e (times m b)} (Supported-multiple P.polynomials scalars.one m (λ y w. at_most_times order m y b w) (at_most_lead P k.top)) e (λ w. below_irrefl order (below_at_most order e (times m b) e w l));
   }
 
   -- The product of polynomials that are not zero is not zero.

@@ -1,9 +1,9 @@
 -- Laws of monomial orders, and induction along them.
-use Rattle.std.proofs.Common.{◌≡◌, ℕ, zero, suc, ◌+◌, ◌<◌, List, [], ◌∷◌, length, ◌⊎◌, inl, inr, refl, sym, ap, ◌∙◌, subst, arith, nat_cmp, Ordering, Less, Equal, Greater}
+use Rattle.std.proofs.Common.{◌≡◌, ℕ, zero, suc, ◌+◌, ◌<◌, List, [], ◌∷◌, length, ◌⊎◌, ◌↔◌, inl, inr, refl, sym, ap, ◌∙◌, subst, arith, nat_cmp, Ordering, Less, Equal, Greater}
 use Rattle.std.specs.Cmp.Lexicographic.{slice_cmp}
 use Rattle.std.proofs.lemmas.Cmp.{nat_list_cmp_total, nat_cmp_total, ranked, tied_itself}
 use Rattle.std.specs.Ordering.{ordering_then, MatchOrdering, ordering_reverse}
-use Rattle.fj_algebra.specs.Order.{Monomials, Divides, add_entries, MonomialOrder, compare, IsBelow}
+use Rattle.fj_algebra.specs.Order.{Monomials, Divides, IsAtMost, add_entries, MonomialOrder, compare, IsBelow}
 
 -- the three answers of a comparison of numbers
 by_number {ℓ} : (P : Ordering → Type ℓ) (x y : ℕ) → (x < y → P Less) → (x ≡ y → P Equal) → (y < x → P Greater) → P (nat_cmp x y)
@@ -133,3 +133,20 @@ module _ {M : Type 0} {monomials : Monomials M} (order : MonomialOrder monomials
   -- Monomials that divide each other are equal.
   pub divides_antisymm : {a b : M} → Divides monomials a b → Divides monomials b a → a ≡ b
   divides_antisymm {a} {b} d e = elim (trichotomy a b) [ inl l ↦ absurd (not_below_multiple e l) | inr (inl h) ↦ h | inr (inr l) ↦ absurd (not_below_multiple d l) ]
+
+  pub at_most_trans : (a b c : M) → IsAtMost order a b → IsAtMost order b c → IsAtMost order a c
+  at_most_trans a b c (inl h) (inl k) = inl (below_trans h k)
+  at_most_trans a b c (inl h) (inr e) = inl (subst (IsBelow order a) e h)
+  at_most_trans a b c (inr e) h = subst (λ a. IsAtMost order a c) (sym e) h
+
+  pub at_most_times : (m a b : M) → IsAtMost order a b → IsAtMost order (times m a) (times m b)
+  at_most_times m a b (inl h) = inl (below_times m h)
+  at_most_times m a b (inr e) = inr (ap (times m) e)
+
+  pub below_at_most : (a b c : M) → IsAtMost order a b → IsBelow order b c → IsBelow order a c
+  below_at_most a b c (inl h) k = below_trans h k
+  below_at_most a b c (inr e) k = subst (λ a. IsBelow order a c) (sym e) k
+
+  -- How two monomials compare says whether they are equal.
+  pub compare_equal : (a b : M) → compare order a b ≡ Equal ↔ (a ≡ b)
+  compare_equal a b = (λ e. order.key_injective a b (equal_lists (order.key a) (order.key b) e), λ e. subst (λ b. compare order a b ≡ Equal) e (tied_itself nat_list_cmp_total (order.key a)))

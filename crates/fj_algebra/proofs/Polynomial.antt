@@ -1,7 +1,7 @@
 -- Laws of coefficients, terms and leads.
 use Rattle.std.proofs.Common.{◌≡◌, ◌≢◌, List, [], ◌∷◌, Contains, ◌⊎◌, inl, inr, sym, ap, ◌∙◌, subst, arith}
 use Rattle.fj_algebra.specs.Ring.{CommutativeRing, subtract}
-use Rattle.fj_algebra.specs.Order.{IsBelow}
+use Rattle.fj_algebra.specs.Order.{IsAtMost, IsBelow}
 use Rattle.fj_algebra.specs.Polynomial.{Field, PolynomialRing, OrderedPolynomials, IsLead, IsMonic, Supported}
 use Rattle.fj_algebra.proofs.Ring.{ring_laws, zero_mul, mul_zero, one_mul, add_cancel_left, neg_unique, add_zero}
 use Rattle.fj_algebra.proofs.Pairs.{contains_cons}
@@ -197,3 +197,7 @@ module _ {K M A : Type 0} (P : OrderedPolynomials K M A) where
     where
       spread : {A : Type 0} (R : CommutativeRing A) (f h g : A) → R.mul (R.add f h) g ≡ R.add (R.mul f g) (R.mul h g)
       spread R f h g = simp ring_laws
+
+  -- The monomials of a polynomial are at most its lead.
+  pub at_most_lead : {f : A} {a : M} → ((b : M) → IsBelow order a b → coefficient f b ≡ scalars.zero) → Supported P.polynomials (λ b. IsAtMost order b a) f
+  at_most_lead {f} {a} top = record { within = λ b n. elim (trichotomy order b a) [ inl l ↦ inl l | inr (inl e) ↦ inr e | inr (inr l) ↦ absurd (n (top b l)) ] }

@@ -13,8 +13,7 @@ use Rattle.fj_algebra.proofs.Ring.{subtract_self, equal_from_subtract}
 use Rattle.fj_algebra.proofs.Ideal.{Member-subtract, Member-Contains, Member-Inside, Member-Equal, Member-same, Member-nil, Member-zero, Inside-head, Inside-cons, Inside-nil, Inside-trans, Inside-Contains, Equal-sym}
 use Rattle.fj_algebra.proofs.Pairs.{contains_cons, contains_head, contains_nil, All-from_elements, pair_of, same_elements}
 use Rattle.fj_algebra.proofs.Order.{below_irrefl, below_trans, not_below_multiple, divides_antisymm, Divides-trans, one_times}
-use Rattle.fj_algebra.proofs.Polynomial.{coefficient_subtract, Supported-subtract, lead_from_monic, lead_unique, lead_nonzero, lead_or_zero, is_zero, term_one}
-use Rattle.fj_algebra.proofs.Buchberger.{at_most_lead}
+use Rattle.fj_algebra.proofs.Polynomial.{at_most_lead, coefficient_subtract, Supported-subtract, lead_from_monic, lead_unique, lead_nonzero, lead_or_zero, is_zero, term_one}
 use Rattle.fj_algebra.proofs.Division.{covers_generate, member_by_remainder}
 
 module _ {K M A : Type 0} (P : OrderedPolynomials K M A) where

@@ -3,15 +3,14 @@ use Rattle.std.proofs.Common.{◌≡◌, ℕ, zero, suc, ◌+◌, ◌<◌, ◌�
 use Rattle.std.proofs.lemmas.List.Elements.{All-contains, All-weaker}
 use Rattle.fj_algebra.specs.Ring.{subtract}
 use Rattle.fj_algebra.specs.Ideal.{Member, Inside}
-use Rattle.fj_algebra.specs.Order.{IsBelow}
+use Rattle.fj_algebra.specs.Order.{IsAtMost, IsBelow}
 use Rattle.fj_algebra.specs.Polynomial.{OrderedPolynomials, IsLead, Supported}
 use Rattle.fj_algebra.specs.Buchberger.{IsReducible, LeadIsReducible}
 use Rattle.fj_algebra.specs.StrictSteps.{IsFace, IsRestriction, IsDegreeOrder, IsBounded, IsBoundedIdeal}
 use Rattle.fj_algebra.proofs.Ideal.{Member-zero, Member-add, Member-mul, Member-same, Member-subtract, Member-Contains, Member-Inside, Inside-Contains}
 use Rattle.fj_algebra.proofs.Order.{below_irrefl, below_trans, one_times}
 use Rattle.fj_algebra.proofs.Pairs.{contains_cons, contains_nil, All-from_elements}
-use Rattle.fj_algebra.proofs.Polynomial.{Supported-weaker, Supported-subtract, Supported-multiple, coefficient_outside, lead_induction, lead_unique, lead_nonzero}
-use Rattle.fj_algebra.proofs.Buchberger.{IsAtMost, at_most_lead}
+use Rattle.fj_algebra.proofs.Polynomial.{at_most_lead, Supported-weaker, Supported-subtract, Supported-multiple, coefficient_outside, lead_induction, lead_unique, lead_nonzero}
 use Rattle.fj_algebra.proofs.Division.{under_cancel, quotient_scalar, reducible, restore}
 use Rattle.fj_algebra.proofs.Leads.{lead_multiple}
 use Rattle.fj_algebra.proofs.Restriction.{restriction, restriction_member}
@@ -81,7 +80,7 @@ module _ {K M A : Type 0} (P : OrderedPolynomials K M A) {V : M → Type 0} (fac
         compare_numbers : (i j : ℕ) → (i < j) ⊎ (j ≤ i)
         compare_numbers i j = grind arith
 
-        small : (b : M) → IsAtMost P b a → (degree a < degree b) ⊎ (degree b ≤ degree a) → degree b ≤ D
+        small : (b : M) → IsAtMost order b a → (degree a < degree b) ⊎ (degree b ≤ degree a) → degree b ≤ D
         small b m (inr h) = let s = bounded.small in omega arith
         small b (inl m) (inl h) = absurd (below_irrefl order (below_trans order m (by_degree.lower a b h)))
         small b (inr e) (inl h) = absurd (below_irrefl order (subst (IsBelow order a) e (by_degree.lower a b h)))

@@ -1,5 +1,5 @@
 -- Monomials, and orders of them by keys.
-use Rattle.std.specs.Prelude.{◌≡◌, ℕ, ◌+◌, List, [], ◌∷◌, length}
+use Rattle.std.specs.Prelude.{◌≡◌, ◌⊎◌, ℕ, ◌+◌, List, [], ◌∷◌, length}
 use Rattle.std.specs.Ordering.{nat_cmp}
 use Rattle.std.specs.Cmp.Lexicographic.{slice_cmp}
 use Rattle.std.specs.declared.cmp.Ordering.{Ordering}
@@ -48,3 +48,7 @@ compare order a b = slice_cmp nat_cmp (order.key a) (order.key b)
 -- a is below b
 pub record IsBelow {M : Type 0} {monomials : Monomials M} (order : MonomialOrder monomials) (a b : M) : Type 0 where
   pub is_less : compare order a b ≡ Less
+
+-- a is at most b
+abbrev pub IsAtMost : {M : Type 0} {monomials : Monomials M} → MonomialOrder monomials → M → M → Type 0
+IsAtMost order a b = IsBelow order a b ⊎ (a ≡ b)
