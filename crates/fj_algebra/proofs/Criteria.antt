@@ -1,15 +1,13 @@
 -- When a pair is settled: by a representation at the least common multiple, by coprime leads, through a third member.
-use Rattle.std.proofs.Common.{ℕ, ◌<◌, [], ◌∷◌, ◌++◌, length, subst₂, arith, List, Contains, ◌⊎◌, inl, inr, ◌≡◌, refl, sym, ap, ◌∙◌, subst}
+use Rattle.std.proofs.Common.{List, Contains, ◌⊎◌, inl, inr, ◌≡◌, refl, sym, ap, ◌∙◌, subst}
 use Rattle.fj_algebra.specs.Ring.{CommutativeRing, subtract}
 use Rattle.fj_algebra.specs.Order.{IsAtMost, Divides, IsBelow, IsLeastCommonMultiple}
 use Rattle.fj_algebra.specs.Polynomial.{OrderedPolynomials, IsLead, IsMonic, Supported}
 use Rattle.fj_algebra.specs.Representation.{Representation, nothing}
-use Rattle.fj_algebra.specs.Buchberger.{AllMonic, Settled, SettledAt, CoversLeads, TreatedRemainder, vanishes, appended}
+use Rattle.fj_algebra.specs.Buchberger.{AllMonic, Settled, CoversLeads, TreatedRemainder, vanishes, appended}
 use Rattle.fj_algebra.specs.Division.{DivisionState, IsDivision}
 use Rattle.fj_algebra.specs.Ideal.{Inside}
 use Rattle.std.specs.List.{AllPairs}
-use Rattle.std.proofs.lemmas.List.{get_or_default, get_or_append_left}
-use Rattle.std.proofs.lemmas.List.Elements.{Contains-append_left}
 use Rattle.fj_algebra.proofs.Pairs.{pair_of}
 use Rattle.fj_algebra.proofs.Ideal.{Member-Inside}
 use Rattle.fj_algebra.proofs.Buchberger.{Supported-from_representation, buchberger}
@@ -147,10 +145,3 @@ module _ {K M A : Type 0} (P : OrderedPolynomials K M A) where
   -- Buchberger's criterion for lists: where all pairs of a list are settled, its leads divide the leads of all nonzero members of its ideal.
   pub covers_from_settled : {L G : List A} → AllMonic P (Contains G) → AllPairs (Settled P (Contains G)) G → Inside P.ring L G → CoversLeads P L (Contains G)
   covers_from_settled {L} {G} monic all inside = record { covers = λ h m n. elim (buchberger P monic (settled_pairs G all) (representation_from_Member P (Member-Inside inside m))) [ inl z ↦ absurd (n z) | inr k ↦ k ] }
-
-  -- Settled pairs of places stay settled where the list grows at its end.
-  pub SettledAt-grown : (G : List A) (r : A) (i j : ℕ) → i < length G → j < length G → SettledAt P G i j → SettledAt P (G ++ (r ∷ [])) i j
-  SettledAt-grown G r i j k l s = record { pair = subst₂ (Settled P (Contains (G ++ (r ∷ [])))) (sym (get_or_append_left G (r ∷ []) 𝟘 i k)) (sym (get_or_append_left G (r ∷ []) 𝟘 j l)) (Settled-weaker (λ g c. Contains-append_left G (r ∷ []) g c) s.pair) }
-
-  pub all_settled : (G : List A) → ((i j : ℕ) → i < j → j < length G → SettledAt P G i j) → AllPairs (Settled P (Contains G)) G
-  all_settled G each i j d l k = let i_in : i < length G = omega arith in subst₂ (Settled P (Contains G)) (get_or_default G i 𝟘 d i_in) (get_or_default G j 𝟘 d k) ((each i j l k).pair)

@@ -18,7 +18,8 @@ use Rattle.fj_algebra.proofs.Ideal.{Member-zero, Member-add, Member-mul, Member-
 use Rattle.fj_algebra.proofs.Order.{trichotomy, below_irrefl, below_trans, below_times, Divides-trans}
 use Rattle.std.proofs.lemmas.List.Kept.{AllPairs-filter}
 use Rattle.std.proofs.lemmas.List.Elements.{All-nil, All-cons}
-use Rattle.fj_algebra.proofs.Colon.{Colon-single}
+use Rattle.fj_algebra.proofs.Colon.{Colon-single, Meet-unique}
+use Rattle.fj_algebra.proofs.ReducedBasis.{reduced_basis_same_ideal}
 use Rattle.fj_algebra.proofs.Leads.{product_cancel}
 use Rattle.fj_algebra.proofs.Variable.{exponent_divides, power_coefficient, power_coefficient_unique, coefficient_of_sum, coefficient_of_difference, coefficient_of_lacking, no_coefficient_of_lacking, coefficient_of_shift, no_coefficient_of_shift, coefficients_end, coefficient_member, member_from_coefficients}
 
@@ -204,6 +205,10 @@ module _ {K M A : Type 0} (P : OrderedPolynomials K M A) (t : Variable P.monomia
                     is_lead = lead_forth lacks r.is_lead;
                     divides = Divides-trans to_rest (record { quotient = monomial_power P.monomials variable (exponent a); product = P.monomials.times_comm (rest a) (monomial_power P.monomials variable (exponent a)) ∙ t.split a });
                   }
+
+      -- For the elimination list it is the reduced basis of the meet.
+      pub eliminated_meet_basis : {I J G N : List A} → All (Lacks P.polynomials t) I → All (Lacks P.polynomials t) J → IsReducedBasis P (elimination_list P.polynomials t I J) G → Meet P.ring I J N → IsReducedBasis in_second_order N (filter test G)
+      eliminated_meet_basis lacks_I lacks_J basis meet = reduced_basis_same_ideal in_second_order (Meet-unique (eliminated_meet lacks_I lacks_J basis.members basis.covers) meet) (eliminated_basis basis)
 
     -- The quotient by one polynomial: the members of the meet with its ideal are divided by it.
     pub eliminated_colon : {I G Q : List A} {g : A} → All (Lacks P.polynomials t) I → Lacks P.polynomials t g → g ≢ 𝟘 → Inside P.ring G (elimination_list P.polynomials t I (g ∷ [])) → CoversLeads P (elimination_list P.polynomials t I (g ∷ [])) (Contains G)

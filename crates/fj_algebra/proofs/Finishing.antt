@@ -3,6 +3,7 @@ use Rattle.std.proofs.Common.{◌≡◌, ◌≢◌, ℕ, suc, ◌<◌, List, [],
 use Rattle.std.specs.List.{AllPairs}
 use Rattle.std.proofs.lemmas.List.Elements.{Contains-get_or, Contains-append_left, Contains-push, Contains-push_cases}
 use Rattle.std.proofs.lemmas.List.Quantifiers.{all_pairs_push}
+use Rattle.std.proofs.lemmas.List.{get_or_default}
 use Rattle.fj_algebra.specs.Ring.{subtract}
 use Rattle.fj_algebra.specs.Ideal.{Member, Inside}
 use Rattle.fj_algebra.specs.Order.{IsAtMost, Divides, IsBelow}
@@ -15,7 +16,7 @@ use Rattle.fj_algebra.specs.Finishing.{IsLeftOut, Kept, EndsIn, ReplacedInTurn, 
 use Rattle.fj_algebra.proofs.Ideal.{Member-subtract, Member-Inside, Member-same, Inside-Contains}
 use Rattle.fj_algebra.proofs.Pairs.{contains_cons, contains_head, contains_tail, contains_nil, All-from_elements, AllPairs-head, AllPairs-tail}
 use Rattle.fj_algebra.proofs.Order.{below_at_most, trichotomy, below_irrefl, below_trans, not_below_multiple, Divides-refl, Divides-trans, order_induction, below_all}
-use Rattle.fj_algebra.proofs.Polynomial.{at_most_lead, coefficient_subtract, subtract_zero, coefficient_outside, lead_from_monic, lead_unique}
+use Rattle.fj_algebra.proofs.Polynomial.{same_monomial, at_most_lead, coefficient_subtract, subtract_zero, coefficient_outside, lead_from_monic, lead_unique}
 use Rattle.fj_algebra.proofs.Buchberger.{Supported-from_representation}
 use Rattle.fj_algebra.proofs.Division.{division_remainder, division_representation, difference_back}
 
@@ -48,6 +49,29 @@ module _ {K M A : Type 0} (P : OrderedPolynomials K M A) where
           descend (inr (inr s)) before = absurd (not_below_multiple order divides s)
           descend (inr (inl e)) (inl n) = absurd (n (e ∙ lead_unique P k o.is_lead))
           descend (inr (inl e)) (inr s) = earlier o.other s o.in_list (subst (IsLead P (get_or G o.other 𝟘)) e o.is_divisor)
+
+  -- So a list that has all members that aren't left out covers the same leads.
+  pub kept_covers : {L G : List A} (ms : List A) → ((i : ℕ) → i < length G → Dec (IsLeftOut P G i)) → ((i : ℕ) → i < length G → (IsLeftOut P G i → ⊥) → Contains ms (get_or G i 𝟘)) → CoversLeads P L (Contains G) → CoversLeads P L (Contains ms)
+  kept_covers {L} {G} ms decided has covers = covers_smaller (λ g a c l. from_kept (kept_divides G decided a c.0 c.1 (at_place g a c l))) covers
+    where
+      at_place : (g : A) (a : M) (c : Contains G g) → IsLead P g a → IsLead P (get_or G c.0 𝟘) a
+      at_place g a c l = subst (λ f. IsLead P f a) (sym (get_or_default G c.0 𝟘 g c.1 ∙ c.2)) l
+
+      from_kept : {a : M} → Kept P G a → IsReducible P (Contains ms) a
+      from_kept k = record { divisor = get_or G k.place 𝟘; member = has k.place k.in_list k.kept; lead = k.lead; is_lead = k.is_lead; divides = k.divides }
+
+  -- The lead of a member that isn't left out doesn't divide the lead of another one.
+  pub kept_apart : {G : List A} {i j : ℕ} → i < length G → j < length G → (i ≡ j → ⊥) → (IsLeftOut P G i → ⊥) → (IsLeftOut P G j → ⊥) → LeadsApart P (get_or G i 𝟘) (get_or G j 𝟘)
+  kept_apart {G} {i} {j} in_i in_j apart kept_i kept_j = record { apart = λ a b l k d. go a b l k d (same_monomial P a b) (order_places i j) }
+    where
+      order_places : (i j : ℕ) → (i ≡ j) ⊎ ((i < j) ⊎ (j < i))
+      order_places i j = grind arith
+
+      go : (a b : M) → IsLead P (get_or G i 𝟘) a → IsLead P (get_or G j 𝟘) b → Divides P.monomials a b → Dec (a ≡ b) → (i ≡ j) ⊎ ((i < j) ⊎ (j < i)) → ⊥
+      go a b l k d (no n) places = kept_j (record { other = i; in_list = in_i; lead = b; is_lead = k; divisor = a; is_divisor = l; divides = d; before = inl n })
+      go a b l k d (yes e) (inl h) = apart h
+      go a b l k d (yes e) (inr (inl h)) = kept_j (record { other = i; in_list = in_i; lead = b; is_lead = k; divisor = a; is_divisor = l; divides = d; before = inr h })
+      go a b l k d (yes e) (inr (inr h)) = kept_i (record { other = j; in_list = in_j; lead = a; is_lead = l; divisor = b; is_divisor = k; divides = subst (λ c. Divides P.monomials c a) e (Divides-refl P.monomials a); before = inr h })
 
   -- A remainder by members whose leads don't divide the lead of m has this lead, and is monic where m is.
   remainder_monic : {G : List A} {m r : A} {a : M} → AllMonic P (Contains G) → IsMonic P m a → ((g : A) (b : M) → Contains G g → IsLead P g b → Divides P.monomials b a → ⊥) → EndsIn P G m r → IsMonic P r a

@@ -2,7 +2,7 @@
 use Rattle.std.proofs.Common.{◌≡◌, ◌≢◌, inl, inr, sym, ap, ◌∙◌, subst}
 use Rattle.fj_algebra.specs.Ring.{CommutativeRing, subtract}
 use Rattle.fj_algebra.specs.Order.{IsAtMost, IsBelow}
-use Rattle.fj_algebra.specs.Polynomial.{OrderedPolynomials, IsLead, IsMonic}
+use Rattle.fj_algebra.specs.Polynomial.{made_monic, OrderedPolynomials, IsLead, IsMonic}
 use Rattle.fj_algebra.proofs.Ring.{ring_laws, add_zero, mul_zero, add_mul, one_mul, equal_from_subtract}
 use Rattle.fj_algebra.proofs.Order.{at_most_times, below_at_most, below_irrefl, below_times, one_times}
 use Rattle.fj_algebra.proofs.Polynomial.{at_most_lead, mul_nonzero, coefficient_outside, Supported-mul, Supported-multiple, without, with_term, under_without, lead_or_zero, lead_nonzero, is_zero, term_mul, term_one}
@@ -56,20 +56,17 @@ module _ {K M A : Type 0} (P : OrderedPolynomials K M A) where
       spread : {A : Type 0} (R : CommutativeRing A) (g x y : A) → R.mul g (subtract R x y) ≡ R.add (R.mul g x) (R.neg (R.mul g y))
       spread R g x y = simp ring_laws
 
-  -- f divided by the coefficient of its lead.
-  abbrev pub made_monic : A → M → A
-  made_monic f a = mul (term (P.field.inverse (coefficient f a)) one) f
-
-  pub made_monic_is : {f : A} {a : M} → IsLead P f a → IsMonic P (made_monic f a) a
+  -- It is monic.
+  pub made_monic_is : {f : A} {a : M} → IsLead P f a → IsMonic P (made_monic P f a) a
   made_monic_is {f} {a} h = record {
     monic = at a ∙ scalars.mul_comm (P.field.inverse (coefficient f a)) (coefficient f a) ∙ P.field.mul_inverse (coefficient f a) h.nonzero;
     top = λ b l. at b ∙ ap (scalars.mul (P.field.inverse (coefficient f a))) (h.top b l) ∙ mul_zero scalars (P.field.inverse (coefficient f a));
   }
     where
-      at : (b : M) → coefficient (made_monic f a) b ≡ scalars.mul (P.field.inverse (coefficient f a)) (coefficient f b)
-      at b = subst (λ e. coefficient (made_monic f a) e ≡ scalars.mul (P.field.inverse (coefficient f a)) (coefficient f b)) (one_times P.monomials b) (P.coefficient_multiple (P.field.inverse (coefficient f a)) one f b)
+      at : (b : M) → coefficient (made_monic P f a) b ≡ scalars.mul (P.field.inverse (coefficient f a)) (coefficient f b)
+      at b = subst (λ e. coefficient (made_monic P f a) e ≡ scalars.mul (P.field.inverse (coefficient f a)) (coefficient f b)) (one_times P.monomials b) (P.coefficient_multiple (P.field.inverse (coefficient f a)) one f b)
 
   -- f is a constant times what it is made.
-  pub made_monic_back : {f : A} {a : M} → IsLead P f a → f ≡ mul (term (coefficient f a) one) (made_monic f a)
+  pub made_monic_back : {f : A} {a : M} → IsLead P f a → f ≡ mul (term (coefficient f a) one) (made_monic P f a)
   made_monic_back {f} {a} h = sym (sym (P.ring.mul_assoc (term (coefficient f a) one) (term (P.field.inverse (coefficient f a)) one) f)
       ∙ ap (λ u. mul u f) (term_mul P (coefficient f a) (P.field.inverse (coefficient f a)) one one ∙ ap (λ c. term c (times one one)) (P.field.mul_inverse (coefficient f a) h.nonzero) ∙ ap (term scalars.one) (P.monomials.times_one one) ∙ term_one P) ∙ one_mul P.ring f)

@@ -10,7 +10,7 @@ use Rattle.fj_algebra.specs.Buchberger.{IsReducible, LeadIsReducible, CoversLead
 use Rattle.fj_algebra.specs.Division.{IsRemainder}
 use Rattle.fj_algebra.specs.ReducedBasis.{LeadsRise, AreReduced, IsReducedBasis}
 use Rattle.fj_algebra.proofs.Ring.{subtract_self, equal_from_subtract}
-use Rattle.fj_algebra.proofs.Ideal.{Member-subtract, Member-Contains, Member-Inside, Member-Equal, Member-same, Member-nil, Member-zero, Inside-head, Inside-cons, Inside-nil, Inside-trans, Inside-Contains, Equal-sym}
+use Rattle.fj_algebra.proofs.Ideal.{Member-subtract, Member-Contains, Member-Inside, Member-Equal, Member-same, Member-nil, Member-zero, Inside-head, Inside-cons, Inside-nil, Inside-trans, Inside-Contains, Equal-sym, Equal-trans}
 use Rattle.fj_algebra.proofs.Pairs.{contains_cons, contains_head, contains_nil, All-from_elements, pair_of, same_elements}
 use Rattle.fj_algebra.proofs.Order.{below_irrefl, below_trans, not_below_multiple, divides_antisymm, Divides-trans, one_times}
 use Rattle.fj_algebra.proofs.Polynomial.{at_most_lead, coefficient_subtract, Supported-subtract, lead_from_monic, lead_unique, lead_nonzero, lead_or_zero, is_zero, term_one}
@@ -145,4 +145,11 @@ module _ {K M A : Type 0} (P : OrderedPolynomials K M A) where
       reduced = λ i j d l k. absurd (omega arith);
       covers = record { covers = λ h m n. absurd (n (Member-nil (Member-Inside (record { each = All-weaker (λ g. g ≡ 𝟘) (Member P.ring []) (λ g e. Member-same e (Member-zero [])) L zeros }) m))) };
     },
+  )
+
+  -- Two ideals are equal exactly where their reduced bases are equal lists.
+  pub same_ideal_by_basis : {L L' G G' : List A} → IsReducedBasis P L G → IsReducedBasis P L' G' → Equal P.ring L L' ↔ (G ≡ G')
+  same_ideal_by_basis {L} {L'} {G} {G'} basis basis' = (
+    λ same. reduced_basis_unique same basis basis',
+    λ e. Equal-trans (reduced_basis_generates basis) (subst (λ H. Equal P.ring H L') (sym e) (Equal-sym (reduced_basis_generates basis'))),
   )

@@ -1,5 +1,5 @@
 -- Gröbner bases by Buchberger's criterion.
-use Rattle.std.specs.Prelude.{◌≡◌, ◌≢◌, ℕ, List, Contains, slice_index_or}
+use Rattle.std.specs.Prelude.{◌≡◌, ◌≢◌, ◌⊎◌, ◌<◌, ℕ, List, length, Contains, slice_index_or}
 use Rattle.fj_algebra.specs.Ring.{subtract}
 use Rattle.fj_algebra.specs.Order.{Divides, IsBelow}
 use Rattle.fj_algebra.specs.Polynomial.{OrderedPolynomials, IsLead, IsMonic}
@@ -20,6 +20,10 @@ pub record Settled {K M A : Type 0} (P : OrderedPolynomials K M A) (S : A → Ty
 -- The pair of the members of the list at the places i and j is settled by the list.
 pub record SettledAt {K M A : Type 0} (P : OrderedPolynomials K M A) (G : List A) (i j : ℕ) : Type 0 where
   pub pair : Settled P (Contains G) (slice_index_or G i P.ring.zero) (slice_index_or G j P.ring.zero)
+
+-- Each pair of places of the list, the first before the second, is pending or settled.
+pub record AllSettledBut {K M A : Type 0} (P : OrderedPolynomials K M A) (G : List A) (pending : ℕ → ℕ → Type 0) : Type 0 where
+  pub each : (i j : ℕ) → i < j → j < length G → pending i j ⊎ SettledAt P G i j
 
 -- The remainder r that a treated pair leaves is zero, or a constant times a monic member of S.
 pub data TreatedRemainder {K M A : Type 0} (P : OrderedPolynomials K M A) (S : A → Type 0) (r : A) : Type 0 where

@@ -47,3 +47,7 @@ pub record IsMonic {K M A : Type 0} (P : OrderedPolynomials K M A) (f : A) (a : 
 -- Each monomial at which f has a coefficient that is not zero satisfies B.
 pub record Supported {K M A : Type 0} (P : PolynomialRing K M A) (B : M → Type 0) (f : A) : Type 0 where
   pub within : (a : M) → P.coefficient f a ≢ P.field.ring.zero → B a
+
+-- f divided by its coefficient at a.
+abbrev pub made_monic : {K M A : Type 0} → OrderedPolynomials K M A → A → M → A
+made_monic P f a = P.ring.mul (P.term (P.field.inverse (P.coefficient f a)) P.monomials.one) f
