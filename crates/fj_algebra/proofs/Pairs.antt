@@ -26,7 +26,8 @@ AllPairs-head R x xs p y (k, l, e) = subst (R x) e (p zero (suc k) y (omega arit
 pub AllPairs-tail : {X : Type 0} (R : X → X → Type 0) (x : X) (xs : List X) → AllPairs R (x ∷ xs) → AllPairs R xs
 AllPairs-tail R x xs p i j d h l = p (suc i) (suc j) d (omega arith) (omega arith)
 
-pub AllPairs-weaker : {X : Type 0} (R S : X → X → Type 0) (xs : List X) → ((x y : X) → Contains xs x → Contains xs y → R x y → S x y) → AllPairs R xs → AllPairs S xs
+pub AllPairs-weaker : {X : Type 0} (R S : X → X → Type 0) (xs : List X) → ((x y : X) → Contains xs x → Contains xs y → R x y → S x y) →
+    AllPairs R xs → AllPairs S xs
 AllPairs-weaker R S xs w p i j d l k = w (get_or xs i d) (get_or xs j d) (Contains-get_or xs i d (omega arith)) (Contains-get_or xs j d k) (p i j d l k)
 
 -- Two elements of a list are one, or one stands before the other.
@@ -41,12 +42,14 @@ pair_of R (z ∷ xs) p x y c d = go (contains_cons z xs x c) (contains_cons z xs
     go (inr e) (inr f) rest = rest e f
 
 -- Two lists that a strict order sorts and that have the same elements are equal.
-pub same_elements : {X : Type 0} (R : X → X → Type 0) → ((x : X) → R x x → ⊥) → ((x y : X) → R x y → R y x → ⊥) → (xs ys : List X) → AllPairs R xs → AllPairs R ys
+pub same_elements : {X : Type 0} (R : X → X → Type 0) → ((x : X) → R x x → ⊥) → ((x y : X) → R x y → R y x → ⊥) → (xs ys : List X) → AllPairs R xs →
+    AllPairs R ys
     → ((x : X) → Contains xs x → Contains ys x) → ((y : X) → Contains ys y → Contains xs y) → xs ≡ ys
 same_elements R irreflexive asymmetric [] [] p q f g = refl
 same_elements R irreflexive asymmetric [] (y ∷ ys) p q f g = absurd (contains_nil y (g y (contains_head y ys)))
 same_elements R irreflexive asymmetric (x ∷ xs) [] p q f g = absurd (contains_nil x (f x (contains_head x xs)))
-same_elements {X} R irreflexive asymmetric (x ∷ xs) (y ∷ ys) p q f g = ap₂ ◌∷◌ heads (same_elements R irreflexive asymmetric xs ys (AllPairs-tail R x xs p) (AllPairs-tail R y ys q) down up)
+same_elements {X} R irreflexive asymmetric (x ∷ xs) (y ∷ ys) p q f g =
+    ap₂ ◌∷◌ heads (same_elements R irreflexive asymmetric xs ys (AllPairs-tail R x xs p) (AllPairs-tail R y ys q) down up)
   where
     heads : x ≡ y
     heads = go (contains_cons y ys x (f x (contains_head x xs))) (contains_cons x xs y (g y (contains_head y ys)))
@@ -57,10 +60,14 @@ same_elements {X} R irreflexive asymmetric (x ∷ xs) (y ∷ ys) p q f g = ap₂
         go (inr c) (inr d) = absurd (asymmetric x y (AllPairs-head R x xs p y d) (AllPairs-head R y ys q x c))
 
     down : (z : X) → Contains xs z → Contains ys z
-    down z c = elim (contains_cons y ys z (f z (contains_tail x xs z c))) [ inl e ↦ absurd (irreflexive z (subst (λ x. R x z) (heads ∙ e) (AllPairs-head R x xs p z c))) | inr d ↦ d ]
+    down z c =
+        elim (contains_cons y ys z (f z (contains_tail x xs z c)))
+        [ inl e ↦ absurd (irreflexive z (subst (λ x. R x z) (heads ∙ e) (AllPairs-head R x xs p z c))) | inr d ↦ d ]
 
     up : (z : X) → Contains ys z → Contains xs z
-    up z c = elim (contains_cons x xs z (g z (contains_tail y ys z c))) [ inl e ↦ absurd (irreflexive z (subst (λ y. R y z) (sym heads ∙ e) (AllPairs-head R y ys q z c))) | inr d ↦ d ]
+    up z c =
+        elim (contains_cons x xs z (g z (contains_tail y ys z c)))
+        [ inl e ↦ absurd (irreflexive z (subst (λ y. R y z) (sym heads ∙ e) (AllPairs-head R y ys q z c))) | inr d ↦ d ]
 
 -- A filter keeps the elements that pass.
 pub filter_contains : {X : Type 0} (p : X → Bool) (xs : List X) (x : X) → Contains xs x → p x ≡ true → Contains (filter p xs) x
@@ -74,4 +81,7 @@ filter_contains {X} p (y ∷ xs) x c t = go (p y) refl (contains_cons y xs x c) 
     go false e (inr d) rest = rest d
 
 pub contains_filter : {X : Type 0} (p : X → Bool) (xs : List X) (x : X) → Contains (filter p xs) x → Contains xs x × (p x ≡ true)
-contains_filter p xs x c = (All-contains (Contains xs) (filter p xs) x (All-filter p (Contains xs) xs (All-contains_itself xs)) c, All-contains (λ x. p x ≡ true) (filter p xs) x (filter_passes p xs) c)
+contains_filter p xs x c = (
+  All-contains (Contains xs) (filter p xs) x (All-filter p (Contains xs) xs (All-contains_itself xs)) c,
+  All-contains (λ x. p x ≡ true) (filter p xs) x (filter_passes p xs) c,
+)

@@ -12,16 +12,23 @@ module _ {K M A : Type 0} (P : OrderedPolynomials K M A) where
 
   -- Settled pairs of places stay settled where the list grows at its end.
   pub SettledAt-grown : (G : List A) (r : A) (i j : ℕ) → i < length G → j < length G → SettledAt P G i j → SettledAt P (G ++ (r ∷ [])) i j
-  SettledAt-grown G r i j k l s = record { pair = subst₂ (Settled P (Contains (G ++ (r ∷ [])))) (sym (get_or_append_left G (r ∷ []) 𝟘 i k)) (sym (get_or_append_left G (r ∷ []) 𝟘 j l)) (Settled-weaker P (λ g c. Contains-append_left G (r ∷ []) g c) s.pair) }
+  SettledAt-grown G r i j k l s =
+      record {
+        pair = subst₂ (Settled P (Contains (G ++ (r ∷ [])))) (sym (get_or_append_left G (r ∷ []) 𝟘 i k))
+            (sym (get_or_append_left G (r ∷ []) 𝟘 j l)) (Settled-weaker P (λ g c. Contains-append_left G (r ∷ []) g c) s.pair);
+      }
 
   pub all_settled : (G : List A) → ((i j : ℕ) → i < j → j < length G → SettledAt P G i j) → AllPairs (Settled P (Contains G)) G
-  all_settled G each i j d l k = let i_in : i < length G = omega arith in subst₂ (Settled P (Contains G)) (get_or_default G i 𝟘 d i_in) (get_or_default G j 𝟘 d k) ((each i j l k).pair)
+  all_settled G each i j d l k =
+      let i_in : i < length G = omega arith in subst₂ (Settled P (Contains G)) (get_or_default G i 𝟘 d i_in) (get_or_default G j 𝟘 d k)
+      ((each i j l k).pair)
 
   pub SettledAt-sym : {G : List A} {i j : ℕ} → SettledAt P G i j → SettledAt P G j i
   SettledAt-sym s = record { pair = Settled-sym P s.pair }
 
   -- A pair that is settled is no longer pending.
-  pub settle_pair : {G : List A} {before after : ℕ → ℕ → Type 0} (i j : ℕ) → SettledAt P G i j → ((x y : ℕ) → before x y → ((x ≡ i) × (y ≡ j)) ⊎ after x y) → AllSettledBut P G before → AllSettledBut P G after
+  pub settle_pair : {G : List A} {before after : ℕ → ℕ → Type 0} (i j : ℕ) → SettledAt P G i j →
+      ((x y : ℕ) → before x y → ((x ≡ i) × (y ≡ j)) ⊎ after x y) → AllSettledBut P G before → AllSettledBut P G after
   settle_pair {G} {before} {after} i j s left all = record { each = λ x y l k. go x y (all.each x y l k) }
     where
       at : (x y : ℕ) → x ≡ i → y ≡ j → SettledAt P G x y
@@ -32,7 +39,8 @@ module _ {K M A : Type 0} (P : OrderedPolynomials K M A) where
       go x y (inl h) = elim (left x y h) [ inl e ↦ inr (at x y e.0 e.1) | inr k ↦ inl k ]
 
   -- Where a member is appended, its pairs with all earlier members become pending.
-  pub append_pending : {G : List A} {before after : ℕ → ℕ → Type 0} (r : A) → ((x y : ℕ) → before x y → after x y) → ((x : ℕ) → x < length G → after x (length G)) → AllSettledBut P G before → AllSettledBut P (G ++ (r ∷ [])) after
+  pub append_pending : {G : List A} {before after : ℕ → ℕ → Type 0} (r : A) → ((x y : ℕ) → before x y → after x y) →
+      ((x : ℕ) → x < length G → after x (length G)) → AllSettledBut P G before → AllSettledBut P (G ++ (r ∷ [])) after
   append_pending {G} {before} {after} r keeps last all = record { each = λ x y l k. go x y l (eq_or_lt y k) }
     where
       eq_or_lt : (y : ℕ) → y < length (G ++ (r ∷ [])) → (y ≡ length G) ⊎ (y < length G)

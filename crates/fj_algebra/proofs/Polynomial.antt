@@ -11,7 +11,8 @@ use Rattle.fj_algebra.proofs.Order.{order_induction, trichotomy, below_trans, be
 pub mul_nonzero : {K : Type 0} (F : Field K) (c d : K) → c ≢ F.ring.zero → d ≢ F.ring.zero → F.ring.mul c d ≢ F.ring.zero
 mul_nonzero F c d nc nd e =
     let i : F.ring.mul c (F.inverse c) ≡ F.ring.one = F.mul_inverse c nc in
-    nd (sym (one_mul F.ring d) ∙ ap (λ u. F.ring.mul u d) (sym i) ∙ regroup F.ring c (F.inverse c) d ∙ ap (F.ring.mul (F.inverse c)) e ∙ mul_zero F.ring (F.inverse c))
+    nd (sym (one_mul F.ring d) ∙ ap (λ u. F.ring.mul u d) (sym i) ∙ regroup F.ring c (F.inverse c) d ∙ ap (F.ring.mul (F.inverse c)) e
+    ∙ mul_zero F.ring (F.inverse c))
   where
     regroup : {K : Type 0} (R : CommutativeRing K) (c i d : K) → R.mul (R.mul c i) d ≡ R.mul i (R.mul c d)
     regroup R c i d = simp ring_laws
@@ -23,10 +24,14 @@ module _ {K M A : Type 0} (P : PolynomialRing K M A) where
   open P use {coefficient, term, ring.{zero as 𝟘, one as 𝟙, add, neg, mul}, field.ring as scalars, monomials.{one, times}}
 
   pub coefficient_zero : (a : M) → coefficient 𝟘 a ≡ scalars.zero
-  coefficient_zero a = add_cancel_left scalars (coefficient 𝟘 a) (coefficient 𝟘 a) scalars.zero (sym (P.coefficient_add 𝟘 𝟘 a) ∙ ap (λ f. coefficient f a) (P.ring.add_zero 𝟘) ∙ sym (scalars.add_zero (coefficient 𝟘 a)))
+  coefficient_zero a =
+      add_cancel_left scalars (coefficient 𝟘 a) (coefficient 𝟘 a) scalars.zero
+      (sym (P.coefficient_add 𝟘 𝟘 a) ∙ ap (λ f. coefficient f a) (P.ring.add_zero 𝟘) ∙ sym (scalars.add_zero (coefficient 𝟘 a)))
 
   pub coefficient_neg : (f : A) (a : M) → coefficient (neg f) a ≡ scalars.neg (coefficient f a)
-  coefficient_neg f a = neg_unique scalars (coefficient f a) (coefficient (neg f) a) (sym (P.coefficient_add f (neg f) a) ∙ ap (λ f. coefficient f a) (P.ring.add_neg f) ∙ coefficient_zero a)
+  coefficient_neg f a =
+      neg_unique scalars (coefficient f a) (coefficient (neg f) a)
+      (sym (P.coefficient_add f (neg f) a) ∙ ap (λ f. coefficient f a) (P.ring.add_neg f) ∙ coefficient_zero a)
 
   pub coefficient_subtract : (f g : A) (a : M) → coefficient (subtract P.ring f g) a ≡ subtract scalars (coefficient f a) (coefficient g a)
   coefficient_subtract f g a = P.coefficient_add f (neg g) a ∙ ap (scalars.add (coefficient f a)) (coefficient_neg g a)
@@ -67,14 +72,25 @@ module _ {K M A : Type 0} (P : OrderedPolynomials K M A) where
 
   -- Whether two monomials are equal is decided.
   pub same_monomial : (a b : M) → Dec (a ≡ b)
-  same_monomial a b = elim (trichotomy order a b) [ inl l ↦ no (λ e. below_irrefl order (subst (λ c. IsBelow order c b) e l)) | inr (inl e) ↦ yes e | inr (inr l) ↦ no (λ e. below_irrefl order (subst (IsBelow order b) e l)) ]
+  same_monomial a b =
+      elim (trichotomy order a b) [
+        | inl l ↦ no (λ e. below_irrefl order (subst (λ c. IsBelow order c b) e l))
+        | inr (inl e) ↦ yes e
+        | inr (inr l) ↦ no (λ e. below_irrefl order (subst (IsBelow order b) e l))
+      ]
 
   pub term_add : (c d : K) (a : M) → add (term c a) (term d a) ≡ term (scalars.add c d) a
   term_add c d a = P.equal (add (term c a) (term d a)) (term (scalars.add c d) a) (λ b. go b (same_monomial a b))
     where
       go : (b : M) → Dec (a ≡ b) → coefficient (add (term c a) (term d a)) b ≡ coefficient (term (scalars.add c d) a) b
       go b (yes e) = rw (← e, P.coefficient_add (term c a) (term d a) a, P.coefficient_same c a, P.coefficient_same d a, P.coefficient_same (scalars.add c d) a)
-      go b (no n) = rw (P.coefficient_add (term c a) (term d a) b, P.coefficient_other c a b n, P.coefficient_other d a b n, P.coefficient_other (scalars.add c d) a b n) (add_zero scalars scalars.zero)
+      go b (no n) =
+          rw (
+            P.coefficient_add (term c a) (term d a) b,
+            P.coefficient_other c a b n,
+            P.coefficient_other d a b n,
+            P.coefficient_other (scalars.add c d) a b n,
+          ) (add_zero scalars scalars.zero)
 
   pub term_zero : (a : M) → term scalars.zero a ≡ 𝟘
   term_zero a = P.equal (term scalars.zero a) 𝟘 (λ b. go b (same_monomial a b) ∙ sym (coefficient_zero P.polynomials b))
@@ -88,14 +104,25 @@ module _ {K M A : Type 0} (P : OrderedPolynomials K M A) where
     where
       inner : (q : M) → Dec (b ≡ q) → coefficient (mul (term c a) (term d b)) (times a q) ≡ coefficient (term (scalars.mul c d) (times a b)) (times a q)
       inner q (yes e) = rw (← e, P.coefficient_multiple c a (term d b) b, P.coefficient_same d b, P.coefficient_same (scalars.mul c d) (times a b))
-      inner q (no n) = rw (P.coefficient_multiple c a (term d b) q, P.coefficient_other d b q n, P.coefficient_other (scalars.mul c d) (times a b) (times a q) (λ e. n (times_cancel order a b q e))) (mul_zero scalars c)
+      inner q (no n) =
+          rw (
+            P.coefficient_multiple c a (term d b) q,
+            P.coefficient_other d b q n,
+            P.coefficient_other (scalars.mul c d) (times a b) (times a q) (λ e. n (times_cancel order a b q e)),
+          ) (mul_zero scalars c)
 
       go : (e : M) → Dec ((q : M) × (times a q ≡ e)) → coefficient (mul (term c a) (term d b)) e ≡ coefficient (term (scalars.mul c d) (times a b)) e
       go e (yes (q, h)) = rw (← h) (inner q (same_monomial b q))
-      go e (no none) = P.coefficient_no_multiple c a (term d b) e (λ h. none (h.quotient, h.product)) ∙ sym (P.coefficient_other (scalars.mul c d) (times a b) e (λ h. none (b, h)))
+      go e (no none) =
+          P.coefficient_no_multiple c a (term d b) e (λ h. none (h.quotient, h.product))
+          ∙ sym (P.coefficient_other (scalars.mul c d) (times a b) e (λ h. none (b, h)))
 
   pub term_one : term scalars.one one ≡ 𝟙
-  term_one = P.equal (term scalars.one one) 𝟙 (λ b. rw (← P.ring.mul_one (term scalars.one one)) (subst (λ e. coefficient (mul (term scalars.one one) 𝟙) e ≡ coefficient 𝟙 b) (one_times P.monomials b) (P.coefficient_multiple scalars.one one 𝟙 b ∙ one_mul scalars (coefficient 𝟙 b))))
+  term_one =
+      P.equal (term scalars.one one) 𝟙
+      (λ b. rw (← P.ring.mul_one (term scalars.one one))
+      (subst (λ e. coefficient (mul (term scalars.one one) 𝟙) e ≡ coefficient 𝟙 b) (one_times P.monomials b)
+      (P.coefficient_multiple scalars.one one 𝟙 b ∙ one_mul scalars (coefficient 𝟙 b))))
 
   -- Terms of one coefficient multiply as monomials.
   pub monic_term_mul : (a b : M) → mul (term scalars.one a) (term scalars.one b) ≡ term scalars.one (times a b)
@@ -117,10 +144,14 @@ module _ {K M A : Type 0} (P : OrderedPolynomials K M A) where
   without f a = subtract P.ring f (term (coefficient f a) a)
 
   pub without_same : (f : A) (a : M) → coefficient (without f a) a ≡ scalars.zero
-  without_same f a = coefficient_subtract P.polynomials f (term (coefficient f a) a) a ∙ rw (P.coefficient_same (coefficient f a) a) (scalars.add_neg (coefficient f a))
+  without_same f a =
+      coefficient_subtract P.polynomials f (term (coefficient f a) a) a
+      ∙ rw (P.coefficient_same (coefficient f a) a) (scalars.add_neg (coefficient f a))
 
   pub without_other : (f : A) (a b : M) → a ≢ b → coefficient (without f a) b ≡ coefficient f b
-  without_other f a b n = coefficient_subtract P.polynomials f (term (coefficient f a) a) b ∙ rw (P.coefficient_other (coefficient f a) a b n) (subtract_zero scalars (coefficient f b))
+  without_other f a b n =
+      coefficient_subtract P.polynomials f (term (coefficient f a) a) b
+      ∙ rw (P.coefficient_other (coefficient f a) a b n) (subtract_zero scalars (coefficient f b))
 
   pub with_term : (f : A) (a : M) → f ≡ add (term (coefficient f a) a) (without f a)
   with_term f a = restore P.ring f (term (coefficient f a) a)
@@ -129,7 +160,14 @@ module _ {K M A : Type 0} (P : OrderedPolynomials K M A) where
       restore R f t = simp ring_laws
 
   pub Supported-without : {B : M → Type 0} {f : A} (a : M) → Supported P.polynomials B f → Supported P.polynomials B (without f a)
-  Supported-without {B} {f} a s = record { within = λ b n. elim (same_monomial a b) [ yes e ↦ absurd (n (subst (λ b. coefficient (without f a) b ≡ scalars.zero) e (without_same f a))) | no m ↦ s.within b (λ z. n (without_other f a b m ∙ z)) ] }
+  Supported-without {B} {f} a s =
+      record {
+        within = λ b n. elim
+            (same_monomial a b) [
+              | yes e ↦ absurd (n (subst (λ b. coefficient (without f a) b ≡ scalars.zero) e (without_same f a)))
+              | no m ↦ s.within b (λ z. n (without_other f a b m ∙ z))
+            ];
+      }
 
   pub under_without : {f : A} {a : M} → IsLead P f a → Supported P.polynomials (λ b. IsBelow order b a) (without f a)
   under_without {f} {a} h = record { within = λ b n. go b n (trichotomy order a b) }
@@ -140,19 +178,46 @@ module _ {K M A : Type 0} (P : OrderedPolynomials K M A) where
       go b n (inr (inr l)) = l
 
   -- the greatest of some monomials at which f has a coefficient that is not zero
-  greatest : (f : A) (bs : List M) → ((b : M) → Contains bs b → coefficient f b ≡ scalars.zero) ⊎ ((a : M) × (coefficient f a ≢ scalars.zero) × ((b : M) → Contains bs b → IsBelow order a b → coefficient f b ≡ scalars.zero))
+  greatest : (f : A) (bs : List M) →
+      ((b : M) → Contains bs b → coefficient f b ≡ scalars.zero) ⊎
+      ((a : M) × (coefficient f a ≢ scalars.zero) × ((b : M) → Contains bs b → IsBelow order a b → coefficient f b ≡ scalars.zero))
   greatest f [] = inl (λ b c. absurd (omega (arith, c.1)))
   greatest f (x ∷ bs) = go (P.field.is_zero (coefficient f x)) (greatest f bs)
     where
-      go : Dec (coefficient f x ≡ scalars.zero) → ((b : M) → Contains bs b → coefficient f b ≡ scalars.zero) ⊎ ((a : M) × (coefficient f a ≢ scalars.zero) × ((b : M) → Contains bs b → IsBelow order a b → coefficient f b ≡ scalars.zero))
-          → ((b : M) → Contains (x ∷ bs) b → coefficient f b ≡ scalars.zero) ⊎ ((a : M) × (coefficient f a ≢ scalars.zero) × ((b : M) → Contains (x ∷ bs) b → IsBelow order a b → coefficient f b ≡ scalars.zero))
+      go : Dec (coefficient f x ≡ scalars.zero) →
+          ((b : M) → Contains bs b → coefficient f b ≡ scalars.zero) ⊎
+          ((a : M) × (coefficient f a ≢ scalars.zero) × ((b : M) → Contains bs b → IsBelow order a b → coefficient f b ≡ scalars.zero))
+          → ((b : M) → Contains (x ∷ bs) b → coefficient f b ≡ scalars.zero) ⊎
+          ((a : M) × (coefficient f a ≢ scalars.zero) × ((b : M) → Contains (x ∷ bs) b → IsBelow order a b → coefficient f b ≡ scalars.zero))
       go (yes e) (inl none) = inl (λ b c. elim (contains_cons x bs b c) [ inl h ↦ subst (λ b. coefficient f b ≡ scalars.zero) h e | inr h ↦ none b h ])
-      go (yes e) (inr (a, n, top)) = inr (a, n, λ b c l. elim (contains_cons x bs b c) [ inl h ↦ subst (λ b. coefficient f b ≡ scalars.zero) h e | inr h ↦ top b h l ])
-      go (no m) (inl none) = inr (x, m, λ b c l. elim (contains_cons x bs b c) [ inl h ↦ absurd (below_irrefl order (subst (IsBelow order x) (sym h) l)) | inr h ↦ none b h ])
+      go (yes e) (inr (a, n, top)) =
+          inr (a, n, λ b c l. elim (contains_cons x bs b c) [ inl h ↦ subst (λ b. coefficient f b ≡ scalars.zero) h e | inr h ↦ top b h l ])
+      go (no m) (inl none) =
+          inr (
+            x,
+            m,
+            λ b c l. elim
+                (contains_cons x bs b c) [ inl h ↦ absurd (below_irrefl order (subst (IsBelow order x) (sym h) l)) | inr h ↦ none b h ],
+          )
       go (no m) (inr (a, n, top)) = elim (trichotomy order x a) [
-        | inl l ↦ inr (a, n, λ b c k. elim (contains_cons x bs b c) [ inl h ↦ absurd (below_irrefl order (below_trans order (subst (IsBelow order a) (sym h) k) l)) | inr h ↦ top b h k ])
-        | inr (inl e) ↦ inr (a, n, λ b c k. elim (contains_cons x bs b c) [ inl h ↦ absurd (below_irrefl order (subst (IsBelow order a) (sym h ∙ e) k)) | inr h ↦ top b h k ])
-        | inr (inr l) ↦ inr (x, m, λ b c k. elim (contains_cons x bs b c) [ inl h ↦ absurd (below_irrefl order (subst (IsBelow order x) (sym h) k)) | inr h ↦ top b h (below_trans order l k) ])
+        | inl l ↦ inr (
+          a,
+          n,
+          λ b c k. elim (contains_cons x bs b c)
+              [ inl h ↦ absurd (below_irrefl order (below_trans order (subst (IsBelow order a) (sym h) k) l)) | inr h ↦ top b h k ],
+        )
+        | inr (inl e) ↦ inr (
+          a,
+          n,
+          λ b c k. elim (contains_cons x bs b c)
+              [ inl h ↦ absurd (below_irrefl order (subst (IsBelow order a) (sym h ∙ e) k)) | inr h ↦ top b h k ],
+        )
+        | inr (inr l) ↦ inr (
+          x,
+          m,
+          λ b c k. elim (contains_cons x bs b c)
+              [ inl h ↦ absurd (below_irrefl order (subst (IsBelow order x) (sym h) k)) | inr h ↦ top b h (below_trans order l k) ],
+        )
       ]
 
   -- Each polynomial is zero or has a lead.
@@ -167,7 +232,8 @@ module _ {K M A : Type 0} (P : OrderedPolynomials K M A) where
 
   -- The lead is unique.
   pub lead_unique : {f : A} {a b : M} → IsLead P f a → IsLead P f b → a ≡ b
-  lead_unique {f} {a} {b} h k = elim (trichotomy order a b) [ inl l ↦ absurd (k.nonzero (h.top b l)) | inr (inl e) ↦ e | inr (inr l) ↦ absurd (h.nonzero (k.top a l)) ]
+  lead_unique {f} {a} {b} h k =
+      elim (trichotomy order a b) [ inl l ↦ absurd (k.nonzero (h.top b l)) | inr (inl e) ↦ e | inr (inr l) ↦ absurd (h.nonzero (k.top a l)) ]
 
   -- A polynomial with a lead is not zero.
   pub lead_nonzero : {f : A} {a : M} → IsLead P f a → f ≢ 𝟘
@@ -181,19 +247,35 @@ module _ {K M A : Type 0} (P : OrderedPolynomials K M A) where
   is_zero f = elim (lead_or_zero f) [ inl e ↦ yes e | inr (a, h) ↦ no (lead_nonzero h) ]
 
   -- Induction on the lead: what holds of zero, and of f where it holds of all polynomials with monomials below the lead of f, holds of all.
-  pub lead_induction {ℓ} : (Q : A → Type ℓ) → Q 𝟘 → ((f : A) (a : M) → IsLead P f a → ((g : A) → Supported P.polynomials (λ b. IsBelow order b a) g → Q g) → Q f) → (f : A) → Q f
-  lead_induction Q base step f = elim (lead_or_zero f) [ inl e ↦ subst Q (sym e) base | inr (a, h) ↦ order_induction order (λ a. (f : A) → IsLead P f a → Q f) (λ a lower f h. step f a h (λ g s. under a lower g s (lead_or_zero g))) a f h ]
+  pub lead_induction {ℓ} : (Q : A → Type ℓ) → Q 𝟘 →
+      ((f : A) (a : M) → IsLead P f a → ((g : A) → Supported P.polynomials (λ b. IsBelow order b a) g → Q g) → Q f) → (f : A) → Q f
+  lead_induction Q base step f =
+      elim (lead_or_zero f) [
+        | inl e ↦ subst Q (sym e) base
+        | inr (a, h) ↦ order_induction order (λ a. (f : A) → IsLead P f a → Q f)
+            (λ a lower f h. step f a h (λ g s. under a lower g s (lead_or_zero g))) a f h
+      ]
     where
-      under : (a : M) → ((b : M) → IsBelow order b a → (f : A) → IsLead P f b → Q f) → (g : A) → Supported P.polynomials (λ b. IsBelow order b a) g → (g ≡ 𝟘) ⊎ ((b : M) × IsLead P g b) → Q g
+      under : (a : M) → ((b : M) → IsBelow order b a → (f : A) → IsLead P f b → Q f) → (g : A) → Supported P.polynomials (λ b. IsBelow order b a) g →
+          (g ≡ 𝟘) ⊎ ((b : M) × IsLead P g b) → Q g
       under a lower g s (inl e) = subst Q (sym e) base
       under a lower g s (inr (b, k)) = lower b (s.within b k.nonzero) g k
 
   -- Induction on the terms of a polynomial, which are all within B.
-  pub term_induction : (B : M → Type 0) (Q : A → Type 0) → Q 𝟘 → ((c : K) (a : M) (f : A) → B a → Q f → Q (add (term c a) f)) → (f : A) → Supported P.polynomials B f → Q f
-  term_induction B Q base step = lead_induction (λ f. Supported P.polynomials B f → Q f) (λ _. base) (λ f a h lower s. subst Q (sym (with_term f a)) (step (coefficient f a) a (without f a) (s.within a h.nonzero) (lower (without f a) (under_without h) (Supported-without a s))))
+  pub term_induction : (B : M → Type 0) (Q : A → Type 0) → Q 𝟘 → ((c : K) (a : M) (f : A) → B a → Q f → Q (add (term c a) f)) → (f : A) →
+      Supported P.polynomials B f → Q f
+  term_induction B Q base step =
+      lead_induction (λ f. Supported P.polynomials B f → Q f) (λ _. base)
+      (λ f a h lower s. subst Q (sym (with_term f a))
+      (step (coefficient f a) a (without f a) (s.within a h.nonzero) (lower (without f a) (under_without h) (Supported-without a s))))
 
-  pub Supported-mul : {B C D : M → Type 0} {f g : A} → ((a b : M) → B a → C b → D (times a b)) → Supported P.polynomials B f → Supported P.polynomials C g → Supported P.polynomials D (mul f g)
-  Supported-mul {B} {C} {D} {f} {g} w s t = term_induction B (λ f. Supported P.polynomials D (mul f g)) (subst (Supported P.polynomials D) (sym (zero_mul P.ring g)) (Supported-zero P.polynomials D)) (λ c a f h k. subst (Supported P.polynomials D) (sym (spread P.ring (term c a) f g)) (Supported-add P.polynomials (Supported-multiple P.polynomials c a (λ b. w a b h) t) k)) f s
+  pub Supported-mul : {B C D : M → Type 0} {f g : A} → ((a b : M) → B a → C b → D (times a b)) → Supported P.polynomials B f →
+      Supported P.polynomials C g → Supported P.polynomials D (mul f g)
+  Supported-mul {B} {C} {D} {f} {g} w s t =
+      term_induction B (λ f. Supported P.polynomials D (mul f g))
+      (subst (Supported P.polynomials D) (sym (zero_mul P.ring g)) (Supported-zero P.polynomials D))
+      (λ c a f h k. subst (Supported P.polynomials D) (sym (spread P.ring (term c a) f g))
+      (Supported-add P.polynomials (Supported-multiple P.polynomials c a (λ b. w a b h) t) k)) f s
     where
       spread : {A : Type 0} (R : CommutativeRing A) (f h g : A) → R.mul (R.add f h) g ≡ R.add (R.mul f g) (R.mul h g)
       spread R f h g = simp ring_laws

@@ -15,7 +15,8 @@ pub record AllMonic {K M A : Type 0} (P : OrderedPolynomials K M A) (S : A → T
 -- 2015, chapter 2, section 9).
 pub record Settled {K M A : Type 0} (P : OrderedPolynomials K M A) (S : A → Type 0) (g h : A) : Type 0 where
   pub below : (m n a b : M) → IsLead P g a → IsLead P h b → P.monomials.times m a ≡ P.monomials.times n b
-      → Representation P S (λ e. IsBelow P.order e (P.monomials.times m a)) (subtract P.ring (P.ring.mul (P.term P.field.ring.one m) g) (P.ring.mul (P.term P.field.ring.one n) h))
+      → Representation P S (λ e. IsBelow P.order e (P.monomials.times m a))
+      (subtract P.ring (P.ring.mul (P.term P.field.ring.one m) g) (P.ring.mul (P.term P.field.ring.one n) h))
 
 -- The pair of the members of the list at the places i and j is settled by the list.
 pub record SettledAt {K M A : Type 0} (P : OrderedPolynomials K M A) (G : List A) (i j : ℕ) : Type 0 where
