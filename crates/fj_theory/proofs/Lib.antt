@@ -3,6 +3,7 @@ pub mod MonomialOrder
 pub mod Keys
 pub mod Field
 pub mod FormalSum
+pub mod OrderedPolynomials
 pub mod Polynomial
 pub mod Product
 pub mod PolynomialRing
