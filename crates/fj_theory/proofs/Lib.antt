@@ -1,3 +1,4 @@
+pub mod EighthVariable
 pub mod Exponents
 pub mod MonomialOrder
 pub mod Keys

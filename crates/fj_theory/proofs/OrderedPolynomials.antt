@@ -32,25 +32,29 @@ exponents_equal a b e =
     let pairs : ◌≡◌ {A = (h : List ℕ) × IsExponents h} (a.list, a.is_exponents) (b.list, b.is_exponents) = Σ_prop_path IsExponents-prop e in
     λ i. record { list = (pairs i).0; is_exponents = (pairs i).1 }
 
-times : Exponents → Exponents → Exponents
+unfoldable pub times : Exponents → Exponents → Exponents
 times a b = record { list = plus a.list b.list; is_exponents = IsExponents-plus a.is_exponents b.is_exponents }
 
-quotient : (a b : Exponents) → Dec ((c : Exponents) × (times a c ≡ b))
+pub quotient : (a b : Exponents) → Dec ((c : Exponents) × (times a c ≡ b))
 unfolding times
 quotient a b = go (divides a.list b.list) refl
   where
     go : (t : Bool) → divides a.list b.list ≡ t → Dec ((c : Exponents) × (times a c ≡ b))
-    go true e = yes (record { list = minus b.list a.list; is_exponents = IsExponents-minus b.is_exponents a.is_exponents }, exponents_equal _ b (plus-minus a.is_exponents b.is_exponents e))
+    go true e =
+        yes (
+          record { list = minus b.list a.list; is_exponents = IsExponents-minus b.is_exponents a.is_exponents },
+          exponents_equal _ b (plus-minus a.is_exponents b.is_exponents e),
+        )
     go false e = no (λ c. true≢false (sym (subst (λ l. divides a.list l ≡ true) (ap (λ x. x.list) c.1) (divides-plus a.is_exponents c.0.is_exponents)) ∙ e))
 
-added : (xs ys : List ℕ) → plus xs ys ≡ add_entries xs ys
+pub added : (xs ys : List ℕ) → plus xs ys ≡ add_entries xs ys
 unfolding plus add_entries
 added [] ys = refl
 added (x ∷ xs) [] = refl
 added (x ∷ xs) (y ∷ ys) = ap (λ l. (x + y) ∷ l) (added xs ys)
 
 -- The monomials in eight variables.
-pub monomials : order.Monomials Exponents
+unfoldable pub monomials : order.Monomials Exponents
 unfolding times
 monomials = record {
   one = record { list = origin; is_exponents = IsExponents-origin };
@@ -61,9 +65,20 @@ monomials = record {
   quotient = quotient;
 }
 
+-- The order of a key.
+unfoldable pub monomial_order : {key : List ℕ → List ℕ} → IsMonomialOrder key → order.MonomialOrder monomials
+unfolding monomials times
+monomial_order {key} K = record {
+  entries = 9;
+  key = λ a. key a.list;
+  key_length = λ a. K.nine a.list a.is_exponents;
+  key_injective = λ a b e. exponents_equal a b (K.injective a.list b.list a.is_exponents b.is_exponents e);
+  key_times = λ a b. K.additive a.list b.list a.is_exponents b.is_exponents ∙ added (key a.list) (key b.list);
+}
+
 module _ {F : Field} (L : IsField F) where
   -- The field, in which it is decided whether an element is zero.
-  pub scalars : abstract.Field (Element F)
+  unfoldable pub scalars : abstract.Field (Element F)
   scalars = record {
     ring = field_ring L;
     inverse = λ x. invert x (is_zero x.rank);
@@ -88,26 +103,28 @@ module _ {F : Field} (L : IsField F) where
       inverts x n (yes e) = absurd (n (element_equal x (field_ring L).zero (e ∙ sym (rank_zero L))))
       inverts x n (no m) = element_equal _ _ (rank_mul L x _ ∙ L.mul_inverse x.rank (omega arith) x.below ∙ sym (rank_one L))
 
-  coefficient_at : PolynomialOver F → Exponents → Element F
+  unfoldable pub coefficient_at : PolynomialOver F → Exponents → Element F
   coefficient_at f a = record { rank = coefficient f.map a.list; below = coefficient_below f.is_polynomial (zero_below L) a.list }
 
-  term_at : Element F → Exponents → PolynomialOver F
+  unfoldable pub term_at : Element F → Exponents → PolynomialOver F
   term_at c a = record { map = term c.rank a.list; is_polynomial = IsPolynomial-term c.rank c.below a.is_exponents }
 
-  listed : (xs : List (List ℕ)) → All IsExponents xs → List Exponents
+  pub listed : (xs : List (List ℕ)) → All IsExponents xs → List Exponents
   listed [] all = []
   listed (x ∷ xs) all = record { list = x; is_exponents = All-head IsExponents x xs all } ∷ listed xs (All-tail IsExponents x xs all)
 
-  listed_contains : (xs : List (List ℕ)) (all : All IsExponents xs) (a : Exponents) → Contains xs a.list → Contains (listed xs all) a
+  pub listed_contains : (xs : List (List ℕ)) (all : All IsExponents xs) (a : Exponents) → Contains xs a.list → Contains (listed xs all) a
   unfolding listed
   listed_contains [] all a c = absurd (contains_nil a.list c)
   listed_contains (x ∷ xs) all a c = elim (contains_cons x xs a.list c) [
-    | inl e ↦ subst (Contains (listed (x ∷ xs) all)) (exponents_equal (record { list = x; is_exponents = All-head IsExponents x xs all }) a e) (contains_head (record { list = x; is_exponents = All-head IsExponents x xs all }) (listed xs (All-tail IsExponents x xs all)))
-    | inr d ↦ contains_tail (record { list = x; is_exponents = All-head IsExponents x xs all }) (listed xs (All-tail IsExponents x xs all)) a (listed_contains xs (All-tail IsExponents x xs all) a d)
+    | inl e ↦ subst (Contains (listed (x ∷ xs) all)) (exponents_equal (record { list = x; is_exponents = All-head IsExponents x xs all }) a e)
+        (contains_head (record { list = x; is_exponents = All-head IsExponents x xs all }) (listed xs (All-tail IsExponents x xs all)))
+    | inr d ↦ contains_tail (record { list = x; is_exponents = All-head IsExponents x xs all }) (listed xs (All-tail IsExponents x xs all)) a
+        (listed_contains xs (All-tail IsExponents x xs all) a d)
   ]
 
   -- The polynomials over the field.
-  pub polynomials : abstract.PolynomialRing (Element F) Exponents (PolynomialOver F)
+  unfoldable pub polynomials : abstract.PolynomialRing (Element F) Exponents (PolynomialOver F)
   unfolding monomials times scalars coefficient_at term_at
   polynomials = record {
     field = scalars;
@@ -118,11 +135,21 @@ module _ {F : Field} (L : IsField F) where
     support = λ f. listed (support f.map) (support_exponents f.is_polynomial);
     equal = λ f g e. over_equal f g (polynomial_equal f.is_polynomial g.is_polynomial (λ a A. ap (λ x. x.rank) (e (record { list = a; is_exponents = A }))));
     support_covers = λ f a n. listed_contains (support f.map) (support_exponents f.is_polynomial) a (supported f a n);
-    coefficient_add = λ f g a. element_equal _ _ (ap (λ h. coefficient h a.list) (map_add L f g) ∙ coefficient-sum L f.map g.map a.list ∙ sym (rank_add L (coefficient_at f a) (coefficient_at g a)));
+    coefficient_add =
+        λ f g a. element_equal _ _
+        (ap (λ h. coefficient h a.list) (map_add L f g) ∙ coefficient-sum L f.map g.map a.list
+        ∙ sym (rank_add L (coefficient_at f a) (coefficient_at g a)));
     coefficient_same = λ c a. element_equal _ _ (coefficient-term_same c.rank a.list);
     coefficient_other = λ c a b n. element_equal _ _ (coefficient-term c.rank a.list b.list ∙ ap (λ t. cond t c.rank 0) (not_same a b n) ∙ sym (rank_zero L));
-    coefficient_multiple = λ c a f b. element_equal _ _ (ap (λ h. coefficient h (plus a.list b.list)) (map_mul L (term_at c a) f) ∙ coefficient-product_term_plus L f.is_polynomial c.rank c.below a.is_exponents b.is_exponents ∙ sym (rank_mul L c (coefficient_at f b)));
-    coefficient_no_multiple = λ c a f b n. element_equal _ _ (ap (λ h. coefficient h b.list) (map_mul L (term_at c a) f) ∙ coefficient-product_term L f.is_polynomial c.rank c.below a.is_exponents b.is_exponents ∙ ap (λ t. cond t (F.mul c.rank (coefficient f.map (minus b.list a.list))) 0) (not_divides a b n) ∙ sym (rank_zero L));
+    coefficient_multiple =
+        λ c a f b. element_equal _ _
+        (ap (λ h. coefficient h (plus a.list b.list)) (map_mul L (term_at c a) f)
+        ∙ coefficient-product_term_plus L f.is_polynomial c.rank c.below a.is_exponents b.is_exponents ∙ sym (rank_mul L c (coefficient_at f b)));
+    coefficient_no_multiple =
+        λ c a f b n. element_equal _ _
+        (ap (λ h. coefficient h b.list) (map_mul L (term_at c a) f)
+        ∙ coefficient-product_term L f.is_polynomial c.rank c.below a.is_exponents b.is_exponents
+        ∙ ap (λ t. cond t (F.mul c.rank (coefficient f.map (minus b.list a.list))) 0) (not_divides a b n) ∙ sym (rank_zero L));
   }
     where
       not_same : (a b : Exponents) → a ≢ b → same b.list a.list ≡ false
@@ -136,27 +163,23 @@ module _ {F : Field} (L : IsField F) where
       not_divides a b n = go (divides a.list b.list) refl
         where
           go : (t : Bool) → divides a.list b.list ≡ t → t ≡ false
-          go true e = absurd (n (record { quotient = record { list = minus b.list a.list; is_exponents = IsExponents-minus b.is_exponents a.is_exponents }; product = exponents_equal _ b (plus-minus a.is_exponents b.is_exponents e) }))
+          go true e =
+              absurd (n (record {
+                quotient = record { list = minus b.list a.list; is_exponents = IsExponents-minus b.is_exponents a.is_exponents };
+                product = exponents_equal _ b (plus-minus a.is_exponents b.is_exponents e);
+              }))
           go false e = refl
 
       supported : (f : PolynomialOver F) (a : Exponents) → coefficient_at f a ≢ (field_ring L).zero → Contains (support f.map) a.list
-      supported f a n = (is_member-Decides same-Decides (support f.map) a.list).0 (support_listed f.map a.list (positive (coefficient f.map a.list) (λ e. n (element_equal (coefficient_at f a) (field_ring L).zero (e ∙ sym (rank_zero L))))))
+      supported f a n =
+          (is_member-Decides same-Decides (support f.map) a.list).0
+          (support_listed f.map a.list
+          (positive (coefficient f.map a.list) (λ e. n (element_equal (coefficient_at f a) (field_ring L).zero (e ∙ sym (rank_zero L))))))
         where
           positive : (n : ℕ) → (n ≡ 0 → ⊥) → 0 < n
           positive n h = omega arith
 
-  -- The order of a key.
-  pub monomial_order : {key : List ℕ → List ℕ} → IsMonomialOrder key → order.MonomialOrder monomials
-  unfolding monomials times
-  monomial_order {key} K = record {
-    entries = 9;
-    key = λ a. key a.list;
-    key_length = λ a. K.nine a.list a.is_exponents;
-    key_injective = λ a b e. exponents_equal a b (K.injective a.list b.list a.is_exponents b.is_exponents e);
-    key_times = λ a b. K.additive a.list b.list a.is_exponents b.is_exponents ∙ added (key a.list) (key b.list);
-  }
-
   -- The polynomials with the order of a key.
-  pub ordered_polynomials : {key : List ℕ → List ℕ} → IsMonomialOrder key → abstract.OrderedPolynomials (Element F) Exponents (PolynomialOver F)
+  unfoldable pub ordered_polynomials : {key : List ℕ → List ℕ} → IsMonomialOrder key → abstract.OrderedPolynomials (Element F) Exponents (PolynomialOver F)
   unfolding polynomials
   ordered_polynomials K = record { polynomials = polynomials; order = monomial_order K }
