@@ -27,9 +27,6 @@ module _ {A : Type 0} (R : CommutativeRing A) where
   pub difference_back : (h r : A) → r ≡ subtract R h (subtract R h r)
   difference_back h r = simp (subtract, ring_laws)
 
-  difference_moved : (p t s r : A) → subtract R (add (subtract R p t) s) (add t r) ≡ subtract R (add (subtract R p t) (subtract R s t)) r
-  difference_moved p t s r = simp ring_laws
-
 module _ {K M A : Type 0} (P : OrderedPolynomials K M A) where
   open P use {coefficient, term, ring.{zero as 𝟘, one as 𝟙, add, neg, mul}, field.ring as scalars, monomials.{one, times}, order}
 
@@ -223,6 +220,10 @@ module _ {K M A : Type 0} (P : OrderedPolynomials K M A) where
     where
       move : {A : Type 0} (R : CommutativeRing A) (d r t : A) → R.add d r ≡ R.add (subtract R d t) (R.add r t)
       move R d r t = simp ring_laws
+
+  -- A step keeps one quotient for each member.
+  pub step_length : {G : List A} {s t : DivisionState A} → length s.quotients ≡ length G → Cancels P G s t ⊎ Moves P G s t → length t.quotients ≡ length G
+  step_length e c = (step_value e c).1
 
   run_value : {G : List A} {t s : DivisionState A} → length s.quotients ≡ length G → DivisionRun P G t s →
       (value G s ≡ value G t) × (length t.quotients ≡ length G)

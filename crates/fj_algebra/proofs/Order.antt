@@ -129,9 +129,6 @@ module _ {M : Type 0} {monomials : Monomials M} (order : MonomialOrder monomials
             (order.key_length b ∙ sym (order.key_length c)) ∙ h.is_less);
       }
 
-  below_times_right : (c : M) {a b : M} → IsBelow order a b → IsBelow order (times a c) (times b c)
-  below_times_right c {a} {b} h = rw (monomials.times_comm a c, monomials.times_comm b c) (below_times c h)
-
   -- Multiplication can be cancelled.
   pub times_cancel : (c a b : M) → times c a ≡ times c b → a ≡ b
   times_cancel c a b e = elim (trichotomy a b) [

@@ -1,7 +1,8 @@
 -- Pairs of elements of a list, and lists that a relation sorts.
-use Rattle.std.proofs.Common.{ap, Bool, true, false, cond, filter, ◌≡◌, zero, suc, List, [], ◌∷◌, get_or, Contains, All, ◌⊎◌, inl, inr, refl, sym, ap₂, ◌∙◌, subst, arith}
+use Rattle.std.proofs.Common.{map, ◌++◌, ap, Bool, true, false, cond, filter, ◌≡◌, zero, suc, List, [], ◌∷◌, get_or, Contains, All, ◌⊎◌, inl, inr, refl, sym, ap₂, ◌∙◌, subst, arith}
 use Rattle.std.specs.List.{AllPairs}
-use Rattle.std.proofs.lemmas.List.Elements.{Contains-get_or, All-contains, All-filter, All-contains_itself, filter_passes}
+use Rattle.std.proofs.lemmas.List.Kept.{AllPairs-cons}
+use Rattle.std.proofs.lemmas.List.Elements.{All-append, All-map, Contains-get_or, All-contains, All-filter, All-contains_itself, filter_passes}
 
 -- An element of a list is its head or in its tail.
 pub contains_cons : {X : Type 0} (x : X) (xs : List X) (y : X) → Contains (x ∷ xs) y → (x ≡ y) ⊎ Contains xs y
@@ -85,3 +86,35 @@ contains_filter p xs x c = (
   All-contains (Contains xs) (filter p xs) x (All-filter p (Contains xs) xs (All-contains_itself xs)) c,
   All-contains (λ x. p x ≡ true) (filter p xs) x (filter_passes p xs) c,
 )
+
+pub contains_map : {X Y : Type 0} (f : X → Y) (xs : List X) (x : X) → Contains xs x → Contains (map f xs) (f x)
+contains_map f [] x c = absurd (contains_nil x c)
+contains_map f (y ∷ xs) x c =
+    elim (contains_cons y xs x c) [
+      | inl e ↦ subst (λ z. Contains (map f (y ∷ xs)) (f z)) e (contains_head (f y) (map f xs))
+      | inr d ↦ contains_tail (f y) (map f xs) (f x) (contains_map f xs x d)
+    ]
+
+pub contains_map_back : {X Y : Type 0} (f : X → Y) (xs : List X) (y : Y) → Contains (map f xs) y → (x : X) × Contains xs x × (f x ≡ y)
+contains_map_back f [] y c = absurd (contains_nil y c)
+contains_map_back f (z ∷ xs) y c =
+    elim (contains_cons (f z) (map f xs) y c)
+    [ inl e ↦ (z, contains_head z xs, e) | inr d ↦ (let r = contains_map_back f xs y d in (r.0, contains_tail z xs r.0 r.1, r.2)) ]
+
+pub AllPairs-append : {X : Type 0} (R : X → X → Type 0) (xs ys : List X) → AllPairs R xs → AllPairs R ys →
+    ((x y : X) → Contains xs x → Contains ys y → R x y) → AllPairs R (xs ++ ys)
+AllPairs-append R [] ys p q r = q
+AllPairs-append R (x ∷ xs) ys p q r =
+    AllPairs-cons R x (xs ++ ys)
+    (All-append (R x) xs ys (All-from_elements (R x) xs (AllPairs-head R x xs p))
+    (All-from_elements (R x) ys (λ y c. r x y (contains_head x xs) c)))
+    (AllPairs-append R xs ys (AllPairs-tail R x xs p) q (λ z y c d. r z y (contains_tail x xs z c) d))
+
+pub AllPairs-map : {X Y : Type 0} (R : X → X → Type 0) (S : Y → Y → Type 0) (f : X → Y) (xs : List X) →
+    ((x y : X) → Contains xs x → Contains xs y → R x y → S (f x) (f y)) → AllPairs R xs → AllPairs S (map f xs)
+AllPairs-map R S f [] w p = λ i j d l k. absurd (omega arith)
+AllPairs-map R S f (x ∷ xs) w p =
+    AllPairs-cons S (f x) (map f xs)
+    (All-map (S (f x)) f xs
+    (All-from_elements (λ y. S (f x) (f y)) xs (λ y c. w x y (contains_head x xs) (contains_tail x xs y c) (AllPairs-head R x xs p y c))))
+    (AllPairs-map R S f xs (λ y z c d. w y z (contains_tail x xs y c) (contains_tail x xs z d)) (AllPairs-tail R x xs p))

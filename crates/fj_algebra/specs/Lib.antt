@@ -15,5 +15,6 @@ pub mod Ring
 pub mod Root
 pub mod Splitting
 pub mod StrictSteps
+pub mod Sugar
 pub mod Sum
 pub mod Variable
