@@ -15,3 +15,4 @@ pub mod Residues
 pub mod Roots
 pub mod Parts
 pub mod PartsList
+pub mod PartsExistence

@@ -1,8 +1,10 @@
 -- Polynomials as falling lists of terms.
-use Rattle.std.proofs.Common.{◌≡◌, ℕ, suc, Bool, true, false, cond, if◌then◌else◌, List, [], ◌∷◌, length, get_or, All, Option, Some, None, unwrap_or, nat_cmp, is_gt, Ordering, Less, Equal, Greater, refl, sym, ap, ◌∙◌, subst, arith, T}
+use Rattle.fj_theory.proofs.Polynomial.{coefficient-empty}
+use Rattle.std.proofs.Common.{◌≡◌, ℕ, suc, Bool, true, false, cond, if◌then◌else◌, List, [], ◌∷◌, length, get_or, All, Option, Some, None, unwrap_or, nat_cmp, is_gt, Ordering, Less, Equal, Greater, refl, sym, ap, ◌∙◌, subst, arith, T, ◌<◌, ◌++◌, ◌≢◌}
 use Rattle.std.specs.Cmp.Lexicographic.{slice_cmp}
 use Rattle.std.specs.Ordering.{ordering_reverse}
-use Rattle.std.specs.FinMap.{get, entries, entries_sorted, find, is_sorted, from_entries, get-entries, get-from_entries, len, len-entries, same_map}
+use Rattle.std.specs.FinMap.Entries.{find-append}
+use Rattle.std.specs.FinMap.{empty, get, entries, entries_sorted, find, is_sorted, from_entries, get-entries, get-from_entries, len, len-entries, same_map}
 use Rattle.std.proofs.lemmas.Bool.{true≢false}
 use Rattle.std.proofs.lemmas.Cmp.{nat_list_cmp_total, tied_itself}
 use Rattle.std.proofs.lemmas.Option.{none-some, same_Some}
@@ -47,7 +49,7 @@ look_head t ts = ap (λ s. cond s (Some t.1) (look t.0 ts)) (same_itself t.0)
 
 module _ (key : List ℕ → List ℕ) where
   -- Each term is greater than all later ones.
-  abbrev Falls : Terms → Type 0
+  abbrev pub Falls : Terms → Type 0
   Falls [] = Unit {0}
   Falls (t ∷ ts) = All (λ u. compare_by key t.0 u.0 ≡ Greater) ts × Falls ts
 
@@ -56,14 +58,14 @@ module _ (key : List ℕ → List ℕ) where
       let O = compare_by_total key in
       O.antisymm a c ∙ ap ordering_reverse (O.trans c b a (O.antisymm c b ∙ ap ordering_reverse h) (O.antisymm b a ∙ ap ordering_reverse g))
 
-  Falls-from_IsFalling : (ts : Terms) → IsFalling key ts → Falls ts
+  pub Falls-from_IsFalling : (ts : Terms) → IsFalling key ts → Falls ts
   Falls-from_IsFalling [] h = tt
   Falls-from_IsFalling (t ∷ []) h = (All-nil (λ u. compare_by key t.0 u.0 ≡ Greater), tt)
   Falls-from_IsFalling (t ∷ u ∷ ts) h =
       let rest = Falls-from_IsFalling (u ∷ ts) h.1 in
       (All-cons (λ v. compare_by key t.0 v.0 ≡ Greater) u ts h.0 (All-weaker (λ v. compare_by key u.0 v.0 ≡ Greater) (λ v. compare_by key t.0 v.0 ≡ Greater) (λ v g. greater_trans t.0 u.0 v.0 h.0 g) ts rest.0), rest)
 
-  IsFalling-from_Falls : (ts : Terms) → Falls ts → IsFalling key ts
+  pub IsFalling-from_Falls : (ts : Terms) → Falls ts → IsFalling key ts
   IsFalling-from_Falls [] h = tt
   IsFalling-from_Falls (t ∷ []) h = tt
   IsFalling-from_Falls (t ∷ u ∷ ts) h = (All-head (λ v. compare_by key t.0 v.0 ≡ Greater) u ts h.0, IsFalling-from_Falls (u ∷ ts) h.1)
@@ -288,3 +290,19 @@ IsTerm-terms_falling {F} {f} key P = All_sort key (IsTerm F) (entries f) (IsTerm
 -- The map of its own entries is the map.
 pub from_entries-entries : (f : Polynomial) → from_entries (entries f) ≡ f
 from_entries-entries f = same_map nat_list_cmp_total exact_bytes _ f (λ q. get-from_entries nat_list_cmp_total (entries f) q ∙ sym (get-entries f q))
+
+-- A list that has a term is not the zero polynomial.
+pub from_entries_nonzero : (t : List ℕ × ℕ) (ts : List (List ℕ × ℕ)) → 0 < t.1 → from_entries {R = slice_cmp nat_cmp} (t ∷ ts) ≢ empty
+from_entries_nonzero t ts h e =
+    let c = sym (coefficient-from_entries_cons t ts t.0 ∙ ap (λ s. cond s t.1 (coefficient (from_entries ts) t.0)) (same_itself t.0)) ∙ ap (λ f. coefficient f t.0) e ∙ coefficient-empty t.0 in
+    absurd (omega arith)
+
+-- A term whose exponents are new, at the end of a list.
+pub coefficient-from_entries_push : (ts : List (List ℕ × ℕ)) (t : List ℕ × ℕ) (a : List ℕ) → find (slice_cmp nat_cmp) t.0 ts ≡ None → coefficient (from_entries (ts ++ t ∷ [])) a ≡ cond (same a t.0) t.1 (coefficient (from_entries ts) a)
+coefficient-from_entries_push ts t a new =
+    coefficient-from_entries (ts ++ t ∷ []) a ∙ ap (λ o. unwrap_or o 0) (find-append (slice_cmp nat_cmp) nat_list_cmp_total ts t.0 t.1 a new) ∙ by (same a t.0)
+    ∙ ap (cond (same a t.0) t.1) (sym (coefficient-from_entries ts a))
+  where
+    by : (s : Bool) → unwrap_or (cond s (Some t.1) (look a ts)) 0 ≡ cond s t.1 (unwrap_or (look a ts) 0)
+    by true = refl
+    by false = refl
