@@ -6,3 +6,5 @@ pub mod FormalSum
 pub mod Polynomial
 pub mod Product
 pub mod PolynomialRing
+pub mod IdealBridge
+pub mod Ideal

@@ -2,3 +2,8 @@ pub mod Exponents
 pub mod MonomialOrder
 pub mod Polynomial
 pub mod Parts
+pub mod Ideal
+pub mod FrobeniusPower
+pub mod Root
+pub mod Colon
+pub mod Evaluation
