@@ -8,3 +8,6 @@ pub mod Product
 pub mod PolynomialRing
 pub mod IdealBridge
 pub mod Ideal
+pub mod Terms
+pub mod Monomial
+pub mod Frobenius
