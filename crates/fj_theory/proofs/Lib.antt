@@ -11,3 +11,5 @@ pub mod Ideal
 pub mod Terms
 pub mod Monomial
 pub mod Frobenius
+pub mod FrobeniusPower
+pub mod Root
