@@ -1,5 +1,5 @@
 -- Laws of Frobenius powers of ideals of polynomials.
-use Rattle.std.proofs.Common.{◌≡◌, ℕ, ◌*◌, ◌^◌, List, ◌++◌, map, refl, sym, ap, ap₂, ◌∙◌, subst}
+use Rattle.std.proofs.Common.{◌≡◌, ℕ, ◌*◌, ◌^◌, List, ◌++◌, sym, ap, ◌∙◌, subst}
 use Rattle.std.proofs.lemmas.List.{map-append}
 use Rattle.fj_coeff.specs.Field.{Field, IsField}
 use Rattle.fj_algebra.specs.Power as ring
@@ -9,7 +9,7 @@ use Rattle.fj_theory.specs.Polynomial.{Polynomial, IsPolynomial, power}
 use Rattle.fj_theory.specs.Ideal.{ArePolynomials, Member, Inside, Equal, multiples, products}
 use Rattle.fj_theory.specs.FrobeniusPower.{frobenius_power}
 use Rattle.fj_theory.proofs.PolynomialRing.{PolynomialOver, polynomial_ring, map_power}
-use Rattle.fj_theory.proofs.IdealBridge.{over, maps, in_ring, InRing, Member_map, Member_over, Inside_map, Inside_over, Equal_map, Equal_over, ArePolynomials-InRing, InRing-multiples, InRing-products, InRing-frobenius_power, Member_polynomial, multiples_maps}
+use Rattle.fj_theory.proofs.IdealBridge.{over, maps, in_ring, Member_map, Member_over, Inside_map, Inside_over, Equal_map, Equal_over, ArePolynomials-InRing, InRing-multiples, InRing-products, InRing-frobenius_power, Member_polynomial, multiples_maps}
 use Rattle.fj_theory.proofs.Frobenius.{polynomial-IsFrobenius}
 
 pub frobenius_power-append : (F : Field) (q : ℕ) (M N : List Polynomial) → frobenius_power F q (M ++ N) ≡ frobenius_power F q M ++ frobenius_power F q N

@@ -13,3 +13,4 @@ pub mod Monomial
 pub mod Frobenius
 pub mod FrobeniusPower
 pub mod Root
+pub mod Colon

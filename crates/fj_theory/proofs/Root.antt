@@ -1,14 +1,14 @@
 -- Laws of Frobenius roots of ideals of polynomials. Those of this file need no parts.
-use Rattle.std.proofs.Common.{◌≡◌, ◌↔◌, ℕ, ◌+◌, ◌*◌, ◌^◌, List, ◌++◌, refl, sym, ap, ap₂, ◌∙◌, subst}
+use Rattle.std.proofs.Common.{◌↔◌, ℕ, ◌+◌, ◌^◌, List, ◌++◌, sym, subst}
 use Rattle.std.proofs.lemmas.Nat.{pow-add}
 use Rattle.fj_coeff.specs.Field.{Field, IsField}
 use Rattle.fj_algebra.specs.Root as ring_root
 use Rattle.fj_algebra.proofs.Root as ring_laws
-use Rattle.fj_theory.specs.Polynomial.{Polynomial, IsPolynomial, power}
-use Rattle.fj_theory.specs.Ideal.{ArePolynomials, Member, Inside, Equal, multiples}
+use Rattle.fj_theory.specs.Polynomial.{Polynomial}
+use Rattle.fj_theory.specs.Ideal.{ArePolynomials, Inside, Equal}
 use Rattle.fj_theory.specs.FrobeniusPower.{frobenius_power}
 use Rattle.fj_theory.specs.Root.{IsRoot}
-use Rattle.fj_theory.proofs.PolynomialRing.{PolynomialOver, polynomial_ring}
+use Rattle.fj_theory.proofs.PolynomialRing.{polynomial_ring}
 use Rattle.fj_theory.proofs.IdealBridge.{maps, in_ring, InRing, InRing-maps, Inside_map, Inside_over, Equal_over, ArePolynomials-InRing, ArePolynomials-maps, InRing-append, InRing-frobenius_power}
 use Rattle.fj_theory.proofs.Frobenius.{polynomial-IsFrobenius}
 
