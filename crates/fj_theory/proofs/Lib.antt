@@ -14,3 +14,4 @@ pub mod Frobenius
 pub mod FrobeniusPower
 pub mod Root
 pub mod Colon
+pub mod Evaluation
