@@ -81,7 +81,7 @@ module _ {F : Field} (L : IsField F) where
 
   -- The p^e-th power of a polynomial as a formal sum: the exponents are multiplied, and the coefficients taken to the power.
   module _ (e : ℕ) where
-    abbrev raise : Element F → Element F
+    abbrev pub raise : Element F → Element F
     raise x = ring.power (field_ring L) x (F.characteristic ^ e)
 
     module _ {B : Type 0} {S : CommutativeRing B} {w : List ℕ → Element F → B} (W : IsAdditive (K L) S w) where

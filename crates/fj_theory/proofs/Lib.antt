@@ -15,3 +15,6 @@ pub mod FrobeniusPower
 pub mod Root
 pub mod Colon
 pub mod Evaluation
+pub mod Residues
+pub mod Roots
+pub mod Parts

@@ -1,6 +1,8 @@
 -- The parts of a polynomial over its q-th powers (Blickle, Mustață and Smith 2008, section 2).
-use Rattle.std.specs.Prelude.{◌≡◌, ◌≢◌, ℕ, ◌<◌, List, [], ◌∷◌, All, map}
+use Rattle.std.specs.Prelude.{◌≡◌, ◌≢◌, ℕ, zero, suc, ◌<◌, if◌then◌else◌, List, [], ◌∷◌, All, map}
 use Rattle.std.specs.FinMap.{empty}
+use Rattle.std.specs.Ordering.{nat_cmp, eq_by_cmp}
+use Rattle.std.specs.Cmp.Lexicographic.{slice_cmp}
 use Rattle.fj_coeff.specs.Field.{Field}
 use Rattle.fj_theory.specs.Exponents.{IsExponents}
 use Rattle.fj_theory.specs.MonomialOrder.{lex_key, IsRising}
@@ -10,6 +12,16 @@ use Rattle.fj_theory.specs.Polynomial.{Polynomial, IsPolynomial, sum, product, p
 pub record Part : Type 0 where
   pub residue : List ℕ
   pub polynomial : Polynomial
+
+-- The p^e-th root of an element of the field: the p-th root, e times.
+unfoldable pub iterated_root : Field → ℕ → ℕ → ℕ
+iterated_root F zero c = c
+iterated_root F (suc e) c = iterated_root F e (F.root c)
+
+-- The part at a residue in a list of parts, and zero where none is listed.
+unfoldable pub part_at : List Part → List ℕ → Polynomial
+part_at [] a = empty
+part_at (part ∷ parts) a = if eq_by_cmp (slice_cmp nat_cmp) a part.residue then part.polynomial else part_at parts a
 
 -- The sum of h_a^q * x^a over a list of parts h_a at residues a.
 unfoldable pub sum_of_parts : Field → ℕ → List Part → Polynomial
