@@ -18,3 +18,4 @@ pub mod Evaluation
 pub mod Residues
 pub mod Roots
 pub mod Parts
+pub mod PartsList

@@ -1,5 +1,5 @@
 -- The parts of a polynomial over p^e-th powers: when a list is the list of parts, and that it is the only one.
-use Rattle.std.proofs.Common.{◌≡◌, ℕ, ◌^◌, ◌<◌, Bool, true, false, cond, ◌||◌, if◌then◌else◌, List, [], ◌∷◌, length, map, All, refl, sym, ap, ap₂, ◌∙◌, subst}
+use Rattle.std.proofs.Common.{◌≡◌, ℕ, ◌^◌, ◌<◌, Bool, true, false, cond, ◌||◌, if◌then◌else◌, List, [], ◌∷◌, length, map, All, refl, sym, ap, ap₂, ◌∙◌, subst, ⊎_elim, eq-zero-or-pos}
 use Rattle.std.specs.List.{list_any}
 use Rattle.std.specs.FinMap.{empty}
 use Rattle.std.proofs.lemmas.Bool.{true≢false, or_parts}
@@ -8,17 +8,17 @@ use Rattle.fj_coeff.specs.Field as field
 use Rattle.fj_coeff.specs.Field.{Field, IsField}
 use Rattle.fj_theory.specs.Exponents.{IsExponents, plus, minus, times, divides, quotient_by, residue_by}
 use Rattle.fj_theory.specs.Polynomial.{Polynomial, IsPolynomial, coefficient, term, product, power}
-use Rattle.fj_theory.specs.Parts.{Part, IsParts, sum_of_parts, part_at}
-use Rattle.fj_theory.proofs.Exponents.{IsExponents-times, IsExponents-minus, plus_comm, plus-minus, length-times}
+use Rattle.fj_theory.specs.Parts.{Part, IsParts, sum_of_parts, part_at, iterated_root}
+use Rattle.fj_theory.proofs.Exponents.{IsExponents-times, IsExponents-minus, plus_comm, plus-minus, length-times, IsExponents-plus}
 use Rattle.fj_theory.proofs.Field.{zero_below, one_below}
 use Rattle.fj_theory.proofs.FormalSum.{same, same_true, same_itself}
-use Rattle.fj_theory.proofs.Polynomial.{coefficient_below, coefficient-empty, coefficient-sum, IsPolynomial-empty, IsPolynomial-term, IsPolynomial-sum}
+use Rattle.fj_theory.proofs.Polynomial.{coefficient_below, coefficient-empty, coefficient-sum, IsPolynomial-empty, IsPolynomial-term, IsPolynomial-sum, polynomial_equal}
 use Rattle.fj_theory.proofs.Product.{IsPolynomial-product}
 use Rattle.fj_theory.proofs.PolynomialRing.{product_comm, IsPolynomial-power}
 use Rattle.fj_theory.proofs.Monomial.{power_below, coefficient-product_term, coefficient-product_term_plus}
 use Rattle.fj_theory.proofs.Frobenius.{power_positive, coefficient-power, coefficient-power_other}
-use Rattle.fj_theory.proofs.Residues.{quotient-residue, residue_by-plus, IsExponents-quotient_by, Distinct, Distinct-from_Rises, Rises-from_IsRising}
-use Rattle.fj_theory.proofs.Roots.{field_power_zero}
+use Rattle.fj_theory.proofs.Residues.{quotient-residue, residue_by-plus, IsExponents-quotient_by, Distinct, Distinct-from_Rises, Rises-from_IsRising, quotient_by-plus, IsExponents-residue_by, residue_by-below}
+use Rattle.fj_theory.proofs.Roots.{field_power_zero, power_injective, power-iterated_root}
 
 -- The residues of a list of parts.
 abbrev pub residues_of : List Part → List (List ℕ)
@@ -87,14 +87,18 @@ module _ {F : Field} (L : IsField F) (e : ℕ) where
       where
         q : ℕ
         q = F.characteristic ^ e
+
         Q : IsPolynomial F (power F f (F.characteristic ^ e))
         Q = IsPolynomial-power L P (F.characteristic ^ e)
+
         one_times : (c : ℕ) → c < F.size → F.mul 1 c ≡ c
         one_times c h = L.mul_comm 1 c (one_below L) h ∙ L.mul_one c h
+
         other : same (residue_by q m) a ≡ false → divides a m ≡ true → (b : List ℕ) → minus m a ≡ times q b → ⊥
         other apart d b s =
             let B : IsExponents b = record { eight = sym (length-times q b) ∙ ap length (sym s) ∙ (IsExponents-minus M A).eight } in
             true≢false (sym (same_itself a) ∙ ap (λ c. same c a) (sym (ap (residue_by q) (sym (plus-minus A M d) ∙ plus_comm a (minus m a) ∙ ap (λ c. plus c a) s) ∙ residue_by-plus q B A below)) ∙ apart)
+
         by : (t : Bool) → same (residue_by q m) a ≡ t → coefficient (product F (term 1 a) (power F f q)) m ≡ cond t (field.power F (coefficient f (quotient_by q m)) q) 0
         by true s =
             let b : List ℕ = quotient_by q m in
@@ -114,8 +118,8 @@ module _ {F : Field} (L : IsField F) (e : ℕ) where
   IsPolynomial-sum_of_parts [] H = IsPolynomial-empty F
   IsPolynomial-sum_of_parts (part ∷ parts) H =
       IsPolynomial-sum L
-          (IsPolynomial-summand (All-head (λ part. IsPolynomial F part.polynomial) part parts H.polynomials) (All-head (λ part. IsExponents part.residue) part parts H.residues) (All-head (λ part. All (λ k. k < F.characteristic ^ e) part.residue) part parts H.below))
-          (IsPolynomial-sum_of_parts parts (IsFamily-tail part parts H))
+      (IsPolynomial-summand (All-head (λ part. IsPolynomial F part.polynomial) part parts H.polynomials) (All-head (λ part. IsExponents part.residue) part parts H.residues) (All-head (λ part. All (λ k. k < F.characteristic ^ e) part.residue) part parts H.below))
+      (IsPolynomial-sum_of_parts parts (IsFamily-tail part parts H))
 
   -- The coefficient of the sum at q * b + a is the q-th power of the coefficient of the part at a.
   pub coefficient-sum_of_parts : (parts : List Part) → IsFamily F (F.characteristic ^ e) parts → {m : List ℕ} → IsExponents m
@@ -133,10 +137,13 @@ module _ {F : Field} (L : IsField F) (e : ℕ) where
     where
       q : ℕ
       q = F.characteristic ^ e
+
       at : Polynomial → ℕ
       at f = field.power F (coefficient f (quotient_by (F.characteristic ^ e) m)) (F.characteristic ^ e)
+
       at_below : {f : Polynomial} → IsPolynomial F f → at f < F.size
       at_below P = power_below L _ (F.characteristic ^ e) (coefficient_below P (zero_below L) _)
+
       by : (t : Bool) → same (residue_by (F.characteristic ^ e) m) part.residue ≡ t → F.add (cond t (at part.polynomial) 0) (at (part_at parts (residue_by (F.characteristic ^ e) m))) ≡ at (if t then part.polynomial else part_at parts (residue_by (F.characteristic ^ e) m))
       by true s =
           let none : part_at parts (residue_by (F.characteristic ^ e) m) ≡ empty =
@@ -146,3 +153,54 @@ module _ {F : Field} (L : IsField F) (e : ℕ) where
       by false s =
           let b = at_below (IsPolynomial-part_at parts (residue_by (F.characteristic ^ e) m) (IsFamily-tail part parts H).polynomials) in
           L.add_comm 0 _ (zero_below L) b ∙ L.add_zero _ b
+
+  module _ {h : Polynomial} (H : IsPolynomial F h) (parts : List Part) (G : IsFamily F (F.characteristic ^ e) parts) where
+    -- A family sums to h where each coefficient of h is the q-th power of that of its part.
+    pub whole_from_powers : ((m : List ℕ) → IsExponents m
+        → coefficient h m ≡ field.power F (coefficient (part_at parts (residue_by (F.characteristic ^ e) m)) (quotient_by (F.characteristic ^ e) m)) (F.characteristic ^ e)) → h ≡ sum_of_parts F (F.characteristic ^ e) parts
+    whole_from_powers each = polynomial_equal H (IsPolynomial-sum_of_parts parts G) (λ m M. each m M ∙ sym (coefficient-sum_of_parts parts G M))
+
+    -- A family sums to h where each part's coefficients are roots of those of h.
+    pub whole_from_roots : ((a b : List ℕ) → IsExponents a → All (λ k. k < F.characteristic ^ e) a → IsExponents b
+        → coefficient (part_at parts a) b ≡ iterated_root F e (coefficient h (plus (times (F.characteristic ^ e) b) a))) → h ≡ sum_of_parts F (F.characteristic ^ e) parts
+    whole_from_roots each = whole_from_powers (λ m M.
+        let q : ℕ = F.characteristic ^ e in
+        sym (ap (λ c. field.power F c q) (each (residue_by q m) (quotient_by q m) (IsExponents-residue_by q M) (residue_by-below q m (power_positive L e)) (IsExponents-quotient_by q M))
+        ∙ power-iterated_root L e _ (coefficient_below H (zero_below L) _) ∙ ap (coefficient h) (quotient-residue q m (power_positive L e))))
+
+    -- The same for the listed parts alone, where the residues of all terms of h are listed.
+    pub whole_from_parts : All (λ part. (b : List ℕ) → IsExponents b → field.power F (coefficient part.polynomial b) (F.characteristic ^ e) ≡ coefficient h (plus (times (F.characteristic ^ e) b) part.residue)) parts
+        → ((m : List ℕ) → IsExponents m → 0 < coefficient h m → list_any (same (residue_by (F.characteristic ^ e) m)) (residues_of parts) ≡ true) → h ≡ sum_of_parts F (F.characteristic ^ e) parts
+    whole_from_parts each covered = whole_from_powers (λ m M. by m M (list_any (same (residue_by (F.characteristic ^ e) m)) (residues_of parts)) refl)
+      where
+        q : ℕ
+        q = F.characteristic ^ e
+
+        by : (m : List ℕ) → IsExponents m → (t : Bool) → list_any (same (residue_by (F.characteristic ^ e) m)) (residues_of parts) ≡ t
+            → coefficient h m ≡ field.power F (coefficient (part_at parts (residue_by (F.characteristic ^ e) m)) (quotient_by (F.characteristic ^ e) m)) (F.characteristic ^ e)
+        by m M true s =
+            let r : List ℕ = residue_by (F.characteristic ^ e) m in
+            ap (coefficient h) (sym (quotient-residue (F.characteristic ^ e) m (power_positive L e)))
+            ∙ sym (part_at_All (λ a f. (b : List ℕ) → IsExponents b → field.power F (coefficient f b) (F.characteristic ^ e) ≡ coefficient h (plus (times (F.characteristic ^ e) b) a)) parts r each s
+            (quotient_by (F.characteristic ^ e) m) (IsExponents-quotient_by (F.characteristic ^ e) M))
+        by m M false s =
+            let none : coefficient h m ≡ 0 = ⊎_elim (λ z. z) (λ p. absurd (true≢false (sym (covered m M p) ∙ s))) (eq-zero-or-pos (coefficient h m)) in
+            none ∙ sym (ap (λ f. field.power F (coefficient f (quotient_by (F.characteristic ^ e) m)) (F.characteristic ^ e)) (part_at_none parts _ s)
+            ∙ ap (λ c. field.power F c (F.characteristic ^ e)) (coefficient-empty (quotient_by (F.characteristic ^ e) m)) ∙ field_power_zero L e)
+
+  -- The coefficients of the parts are determined by the sum.
+  pub part_at-coefficient : {h : Polynomial} (parts : List Part) → IsFamily F (F.characteristic ^ e) parts → h ≡ sum_of_parts F (F.characteristic ^ e) parts
+      → {a b : List ℕ} → IsExponents a → All (λ k. k < F.characteristic ^ e) a → IsExponents b → field.power F (coefficient (part_at parts a) b) (F.characteristic ^ e) ≡ coefficient h (plus (times (F.characteristic ^ e) b) a)
+  part_at-coefficient {h} parts G whole {a} {b} A below B =
+      let q : ℕ = F.characteristic ^ e in
+      let m : List ℕ = plus (times q b) a in
+      sym (ap (λ f. coefficient f m) whole ∙ coefficient-sum_of_parts parts G (IsExponents-plus (IsExponents-times q B) A)
+      ∙ ap₂ (λ r c. field.power F (coefficient (part_at parts r) c) q) (residue_by-plus q B A below) (quotient_by-plus q B A below))
+
+  pub part_at_unique : {h : Polynomial} (parts others : List Part) → IsFamily F (F.characteristic ^ e) parts → IsFamily F (F.characteristic ^ e) others
+      → h ≡ sum_of_parts F (F.characteristic ^ e) parts → h ≡ sum_of_parts F (F.characteristic ^ e) others → {a : List ℕ} → IsExponents a → All (λ k. k < F.characteristic ^ e) a → part_at parts a ≡ part_at others a
+  part_at_unique parts others G K whole whole' {a} A below =
+      let P = IsPolynomial-part_at parts a G.polynomials in
+      let Q = IsPolynomial-part_at others a K.polynomials in
+      polynomial_equal P Q (λ b B. power_injective L e _ _ (coefficient_below P (zero_below L) b) (coefficient_below Q (zero_below L) b)
+      (part_at-coefficient parts G whole A below B ∙ sym (part_at-coefficient others K whole' A below B)))

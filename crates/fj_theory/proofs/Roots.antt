@@ -46,6 +46,7 @@ module _ {F : Field} (L : IsField F) where
       where
         M : RingMap (K L) (K L) (raise L e)
         M = (field-IsFrobenius L e).ring_map
+
         one : 0 < x.rank → (K L).one ≡ (K L).zero
         one h =
             sym M.keeps_one ∙ ap (raise L e) (sym (mul_inverse x h)) ∙ M.keeps_mul x (inverse x h) ∙ ap (λ y. (K L).mul y (raise L e (inverse x h))) z ∙ zero_mul (K L) (raise L e (inverse x h))
