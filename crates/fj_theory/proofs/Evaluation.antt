@@ -26,7 +26,7 @@ interchange : {A : Type 0} (R : CommutativeRing A) (u v s t : A) → R.mul (R.mu
 interchange R u v s t = simp product_laws
 
 module _ {F : Field} (L : IsField F) where
-  monomial_value_below : (a point : List ℕ) → All (λ x. x < F.size) point → monomial_value F a point < F.size
+  pub monomial_value_below : (a point : List ℕ) → All (λ x. x < F.size) point → monomial_value F a point < F.size
   unfolding monomial_value
   monomial_value_below [] point all = one_below L
   monomial_value_below (k ∷ a) [] all = L.mul_below _ _ (power_below L 0 k (zero_below L)) (monomial_value_below a [] all)
@@ -54,13 +54,13 @@ module _ {F : Field} (L : IsField F) where
       let rest = All-tail (λ x. x < F.size) x point all in
       step x j k _ _ _ (All-head (λ x. x < F.size) x point all) (monomial_value_below a point rest) (monomial_value_below b point rest) (monomial_value_below (plus a b) point rest) (element-monomial_value-plus a b point (omega arith) rest)
 
-  monomial_value-zeros : (n : ℕ) (point : List ℕ) → monomial_value F (replicate n 0) point ≡ 1
+  pub monomial_value-zeros : (n : ℕ) (point : List ℕ) → monomial_value F (replicate n 0) point ≡ 1
   unfolding monomial_value field.power
   monomial_value-zeros zero point = refl
   monomial_value-zeros (suc n) [] = ap (F.mul 1) (monomial_value-zeros n []) ∙ L.mul_one 1 (one_below L)
   monomial_value-zeros (suc n) (x ∷ point) = ap (F.mul 1) (monomial_value-zeros n point) ∙ L.mul_one 1 (one_below L)
 
-  monomial_value-origin : (point : List ℕ) → monomial_value F origin point ≡ 1
+  pub monomial_value-origin : (point : List ℕ) → monomial_value F origin point ≡ 1
   unfolding origin
   monomial_value-origin point = monomial_value-zeros 8 point
 
@@ -98,6 +98,12 @@ module _ {F : Field} (L : IsField F) where
 
     from_elements : {m n : ℕ} → m < F.size → n < F.size → element L m ≡ element L n → m ≡ n
     from_elements {m} {n} hm hn e = sym (rank_element L m hm) ∙ ap (λ x. x.rank) e ∙ rank_element L n hn
+
+    -- The value of a product of monomials is the product of their values.
+    pub monomial_value-plus : {a b : List ℕ} → IsExponents a → IsExponents b → monomial_value F (plus a b) point ≡ F.mul (monomial_value F a point) (monomial_value F b point)
+    monomial_value-plus {a} {b} A B =
+        from_elements (monomial_below (plus a b)) (L.mul_below _ _ (monomial_below a) (monomial_below b))
+        (element-monomial_value-plus a b point (A.eight ∙ sym B.eight) at.below ∙ sym (element_mul L _ _ (monomial_below a) (monomial_below b)))
 
     weight_product : {a b : List ℕ} (x y : Element F) → IsExponents a → IsExponents b → weight (plus a b) ((K L).mul x y) ≡ (K L).mul (weight a x) (weight b y)
     unfolding weight

@@ -19,3 +19,4 @@ pub mod Residues
 pub mod Roots
 pub mod Parts
 pub mod PartsList
+pub mod PointIdeal

@@ -7,3 +7,5 @@ pub mod FrobeniusPower
 pub mod Root
 pub mod Colon
 pub mod Evaluation
+pub mod RootLaws
+pub mod PointIdeal

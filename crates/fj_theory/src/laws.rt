@@ -1,0 +1,14 @@
+//! Theorems over the definitions alone. A function of this module does nothing: its clause is the theorem, and the check
+//! proves it.
+
+ghost use Rattle.fj_theory.specs.RootLaws.{PartsUnique, RootOfRoot};
+
+/// Roots of roots are roots.
+pub fn root_of_root()
+    ensures { RootOfRoot }
+{}
+
+/// A polynomial has one list of parts.
+pub fn parts_unique()
+    ensures { PartsUnique }
+{}
