@@ -1,8 +1,10 @@
 -- Polynomials as falling lists of terms.
-use Rattle.std.proofs.Common.{◌≡◌, ℕ, suc, Bool, true, false, cond, if◌then◌else◌, List, [], ◌∷◌, length, get_or, All, Option, Some, None, unwrap_or, nat_cmp, is_gt, Ordering, Less, Equal, Greater, refl, sym, ap, ◌∙◌, subst, arith, T}
+use Rattle.fj_theory.proofs.Polynomial.{coefficient-empty}
+use Rattle.std.proofs.Common.{◌≡◌, ℕ, suc, Bool, true, false, cond, if◌then◌else◌, List, [], ◌∷◌, length, get_or, All, Option, Some, None, unwrap_or, nat_cmp, is_gt, Ordering, Less, Equal, Greater, refl, sym, ap, ◌∙◌, subst, arith, T, ◌<◌, ◌++◌, ◌≢◌}
 use Rattle.std.specs.Cmp.Lexicographic.{slice_cmp}
 use Rattle.std.specs.Ordering.{ordering_reverse}
-use Rattle.std.specs.FinMap.{get, entries, entries_sorted, find, is_sorted, from_entries, get-entries, get-from_entries, len, len-entries, same_map}
+use Rattle.std.specs.FinMap.Entries.{find-append}
+use Rattle.std.specs.FinMap.{empty, get, entries, entries_sorted, find, is_sorted, from_entries, get-entries, get-from_entries, len, len-entries, same_map}
 use Rattle.std.proofs.lemmas.Bool.{true≢false}
 use Rattle.std.proofs.lemmas.Cmp.{nat_list_cmp_total, tied_itself}
 use Rattle.std.proofs.lemmas.Option.{none-some, same_Some}
@@ -288,3 +290,19 @@ IsTerm-terms_falling {F} {f} key P = All_sort key (IsTerm F) (entries f) (IsTerm
 -- The map of its own entries is the map.
 pub from_entries-entries : (f : Polynomial) → from_entries (entries f) ≡ f
 from_entries-entries f = same_map nat_list_cmp_total exact_bytes _ f (λ q. get-from_entries nat_list_cmp_total (entries f) q ∙ sym (get-entries f q))
+
+-- A list that has a term is not the zero polynomial.
+pub from_entries_nonzero : (t : List ℕ × ℕ) (ts : List (List ℕ × ℕ)) → 0 < t.1 → from_entries {R = slice_cmp nat_cmp} (t ∷ ts) ≢ empty
+from_entries_nonzero t ts h e =
+    let c = sym (coefficient-from_entries_cons t ts t.0 ∙ ap (λ s. cond s t.1 (coefficient (from_entries ts) t.0)) (same_itself t.0)) ∙ ap (λ f. coefficient f t.0) e ∙ coefficient-empty t.0 in
+    absurd (omega arith)
+
+-- A term whose exponents are new, at the end of a list.
+pub coefficient-from_entries_push : (ts : List (List ℕ × ℕ)) (t : List ℕ × ℕ) (a : List ℕ) → find (slice_cmp nat_cmp) t.0 ts ≡ None → coefficient (from_entries (ts ++ t ∷ [])) a ≡ cond (same a t.0) t.1 (coefficient (from_entries ts) a)
+coefficient-from_entries_push ts t a new =
+    coefficient-from_entries (ts ++ t ∷ []) a ∙ ap (λ o. unwrap_or o 0) (find-append (slice_cmp nat_cmp) nat_list_cmp_total ts t.0 t.1 a new) ∙ by (same a t.0)
+    ∙ ap (cond (same a t.0) t.1) (sym (coefficient-from_entries ts a))
+  where
+    by : (s : Bool) → unwrap_or (cond s (Some t.1) (look a ts)) 0 ≡ cond s t.1 (unwrap_or (look a ts) 0)
+    by true = refl
+    by false = refl
