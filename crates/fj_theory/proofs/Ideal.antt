@@ -1,5 +1,5 @@
 -- Laws of ideals of polynomials: members, inclusion, equality, sums, products and the unit ideal.
-use Rattle.std.proofs.Common.{◌≡◌, ◌↔◌, List, [], ◌∷◌, ◌++◌, length, All, Contains, sym, ap, ap₂, ◌∙◌, subst}
+use Rattle.std.proofs.Common.{◌≡◌, ◌↔◌, ℕ, ◌+◌, ◌-◌, ◌≤◌, arith, List, [], ◌∷◌, ◌++◌, length, All, Contains, sym, ap, ap₂, ◌∙◌, subst}
 use Rattle.std.specs.FinMap.{empty}
 use Rattle.std.proofs.lemmas.List.{length-map}
 use Rattle.std.proofs.lemmas.List.Elements.{All-nil, All-cons, All-head, All-tail, All-append, All-weaker, All-contains}
@@ -7,9 +7,10 @@ use Rattle.fj_coeff.specs.Field.{Field, IsField}
 use Rattle.fj_algebra.specs.Ideal as ring_ideal
 use Rattle.fj_algebra.proofs.Ideal as ring_laws
 use Rattle.fj_theory.specs.Exponents.{origin}
-use Rattle.fj_theory.specs.Polynomial.{Polynomial, IsPolynomial, sum, product, negation, term}
+use Rattle.fj_theory.specs.Polynomial.{Polynomial, IsPolynomial, sum, product, negation, power, term}
 use Rattle.fj_theory.specs.Ideal.{ArePolynomials, combination, list_combination, Member, Inside, Equal, multiples, products}
-use Rattle.fj_theory.proofs.PolynomialRing.{polynomial_ring, map_zero, map_one, map_add, map_neg, map_mul, product_one}
+use Rattle.fj_theory.proofs.PolynomialRing.{polynomial_ring, map_zero, map_one, map_add, map_neg, map_mul, product_one, over_equal, IsPolynomial-power, power_add}
+use Rattle.fj_theory.proofs.Product.{IsPolynomial-product}
 use Rattle.fj_theory.proofs.IdealBridge.{over, maps, ArePolynomials-maps, ArePolynomials-single, ArePolynomials-head, ArePolynomials-tail, in_ring, InRing, Member_map, Member_over, Inside_map, Inside_over, Equal_map, Equal_over, ArePolynomials-InRing, InRing-nil, InRing-cons, InRing-append, InRing-multiples, InRing-products, IsPolynomial-one, Member_polynomial, list_combination_map}
 
 pub ArePolynomials-append : {F : Field} {M N : List Polynomial} → ArePolynomials F M → ArePolynomials F N → ArePolynomials F (M ++ N)
@@ -251,6 +252,24 @@ module _ {F : Field} (L : IsField F) where
           let X = in_ring P in
           let Y = in_ring Q in
           Equal_map L (InRing-multiples L A X) (InRing-multiples L A Y) (ring_laws.Equal-multiples (over A) (Equal_over L X Y E))
+
+    -- Multiples of multiples.
+    pub multiples-multiples : {g : Polynomial} → IsPolynomial F g → multiples F g (multiples F f M) ≡ multiples F (product F g f) M
+    multiples-multiples {g} B =
+        let X = in_ring P in
+        let Y = InRing-multiples L B (InRing-multiples L A X) in
+        let Z = InRing-multiples L (IsPolynomial-product L B A) X in
+        sym Y.are ∙ ap maps (ring_laws.multiples-multiples (polynomial_ring L) (over B) (over A) X.list ∙ ap (λ h. ring_ideal.multiples (polynomial_ring L) h X.list) (over_equal _ _ (map_mul L (over B) (over A)))) ∙ Z.are
+
+  -- A higher power is in the ideal of a lower one.
+  pub Member-power_more : {f : Polynomial} → IsPolynomial F f → (m n : ℕ) → Member F (power F f m ∷ []) (power F f (n + m))
+  Member-power_more {f} A m n =
+      let B = IsPolynomial-power L A m in
+      subst (Member F (power F f m ∷ [])) (sym (power_add L A n m))
+      (Member-product (ArePolynomials-single B) (IsPolynomial-power L A n) (Member-head (ArePolynomials-single B)))
+
+  pub Inside-powers : {f : Polynomial} → IsPolynomial F f → (m n : ℕ) → m ≤ n → Inside F (power F f n ∷ []) (power F f m ∷ [])
+  Inside-powers {f} A m n h = let split : (n - m) + m ≡ n = omega arith in Inside-single (subst (λ k. Member F (power F f m ∷ []) (power F f k)) split (Member-power_more A m (n - m)))
 
   -- The unit ideal.
   module _ {M : List Polynomial} (P : ArePolynomials F M) where

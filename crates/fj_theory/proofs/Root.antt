@@ -1,5 +1,5 @@
 -- Laws of Frobenius roots of ideals of polynomials. Those of this file need no parts.
-use Rattle.std.proofs.Common.{◌↔◌, ℕ, ◌+◌, ◌^◌, List, ◌++◌, sym, subst}
+use Rattle.std.proofs.Common.{◌↔◌, ℕ, ◌+◌, ◌^◌, List, [], ◌++◌, sym, subst}
 use Rattle.std.proofs.lemmas.Nat.{pow-add}
 use Rattle.fj_coeff.specs.Field.{Field, IsField}
 use Rattle.fj_algebra.specs.Root as ring_root
@@ -9,12 +9,17 @@ use Rattle.fj_theory.specs.Ideal.{ArePolynomials, Inside, Equal}
 use Rattle.fj_theory.specs.FrobeniusPower.{frobenius_power}
 use Rattle.fj_theory.specs.Root.{IsRoot}
 use Rattle.fj_theory.proofs.PolynomialRing.{polynomial_ring}
-use Rattle.fj_theory.proofs.IdealBridge.{maps, in_ring, InRing, InRing-maps, Inside_map, Inside_over, Equal_over, ArePolynomials-InRing, ArePolynomials-maps, InRing-append, InRing-frobenius_power}
+use Rattle.fj_theory.proofs.IdealBridge.{ArePolynomials-nil, maps, in_ring, InRing, InRing-maps, Inside_map, Inside_over, Equal_over, ArePolynomials-InRing, ArePolynomials-maps, InRing-append, InRing-frobenius_power}
+use Rattle.fj_theory.proofs.Ideal.{Inside-nil}
 use Rattle.fj_theory.proofs.Frobenius.{polynomial-IsFrobenius}
 
 -- Two roots of one list are one ideal.
 pub IsRoot-unique : {F : Field} {q : ℕ} {M N K : List Polynomial} → IsRoot F q M N → IsRoot F q M K → Equal F N K
 IsRoot-unique {N} {K} X Y = record { forth = X.least K Y.polynomials Y.inside; back = Y.least N X.polynomials X.inside }
+
+-- The root of the empty list.
+pub IsRoot-nil : (F : Field) (q : ℕ) → IsRoot F q [] []
+IsRoot-nil F q = record { polynomials = ArePolynomials-nil; inside = Inside-nil []; least = λ N Q I. Inside-nil N }
 
 module _ {F : Field} (L : IsField F) where
   -- Roots, to the ring of polynomials and back.
