@@ -20,3 +20,4 @@ pub mod Roots
 pub mod Parts
 pub mod PartsList
 pub mod PointIdeal
+pub mod PartsExistence

@@ -49,7 +49,7 @@ look_head t ts = ap (λ s. cond s (Some t.1) (look t.0 ts)) (same_itself t.0)
 
 module _ (key : List ℕ → List ℕ) where
   -- Each term is greater than all later ones.
-  abbrev Falls : Terms → Type 0
+  abbrev pub Falls : Terms → Type 0
   Falls [] = Unit {0}
   Falls (t ∷ ts) = All (λ u. compare_by key t.0 u.0 ≡ Greater) ts × Falls ts
 
@@ -58,14 +58,14 @@ module _ (key : List ℕ → List ℕ) where
       let O = compare_by_total key in
       O.antisymm a c ∙ ap ordering_reverse (O.trans c b a (O.antisymm c b ∙ ap ordering_reverse h) (O.antisymm b a ∙ ap ordering_reverse g))
 
-  Falls-from_IsFalling : (ts : Terms) → IsFalling key ts → Falls ts
+  pub Falls-from_IsFalling : (ts : Terms) → IsFalling key ts → Falls ts
   Falls-from_IsFalling [] h = tt
   Falls-from_IsFalling (t ∷ []) h = (All-nil (λ u. compare_by key t.0 u.0 ≡ Greater), tt)
   Falls-from_IsFalling (t ∷ u ∷ ts) h =
       let rest = Falls-from_IsFalling (u ∷ ts) h.1 in
       (All-cons (λ v. compare_by key t.0 v.0 ≡ Greater) u ts h.0 (All-weaker (λ v. compare_by key u.0 v.0 ≡ Greater) (λ v. compare_by key t.0 v.0 ≡ Greater) (λ v g. greater_trans t.0 u.0 v.0 h.0 g) ts rest.0), rest)
 
-  IsFalling-from_Falls : (ts : Terms) → Falls ts → IsFalling key ts
+  pub IsFalling-from_Falls : (ts : Terms) → Falls ts → IsFalling key ts
   IsFalling-from_Falls [] h = tt
   IsFalling-from_Falls (t ∷ []) h = tt
   IsFalling-from_Falls (t ∷ u ∷ ts) h = (All-head (λ v. compare_by key t.0 v.0 ≡ Greater) u ts h.0, IsFalling-from_Falls (u ∷ ts) h.1)
