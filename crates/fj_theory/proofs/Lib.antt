@@ -21,3 +21,4 @@ pub mod Parts
 pub mod PartsList
 pub mod PointIdeal
 pub mod PartsExistence
+pub mod PartsRing
