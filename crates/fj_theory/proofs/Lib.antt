@@ -22,3 +22,4 @@ pub mod PartsList
 pub mod PointIdeal
 pub mod PartsExistence
 pub mod PartsRing
+pub mod RootParts
