@@ -25,3 +25,4 @@ pub mod PointIdeal
 pub mod PartsExistence
 pub mod PartsRing
 pub mod RootParts
+pub mod TermLists
