@@ -1,5 +1,6 @@
 -- Lists of terms that fall in a monomial order: pushing, replacing and leaving out a term.
-use Rattle.std.proofs.Common.{◌≡◌, ℕ, zero, suc, ◌<◌, get_or, List, [], ◌∷◌, ◌++◌, length, sym, ap, ◌∙◌, arith}
+use Rattle.std.proofs.Common.{◌≡◌, ℕ, zero, suc, ◌<◌, get_or, All, List, [], ◌∷◌, ◌++◌, length, sym, ap, ◌∙◌, arith}
+use Rattle.std.proofs.lemmas.List.Elements.{All-head, All-tail}
 use Rattle.std.specs.Ordering.{ordering_reverse}
 use Rattle.std.specs.declared.cmp.Ordering.{Ordering}
 use Rattle.std.specs.declared.cmp.Ordering.TheVariants.{Less, Equal, Greater}
@@ -74,6 +75,12 @@ module _ (key : List ℕ → List ℕ) where
   pub falling-back : (xs ys : List (List ℕ × ℕ)) → IsFalling key (xs ++ ys) → IsFalling key ys
   falling-back [] ys h = h
   falling-back (x ∷ xs) ys h = falling-back xs ys (falling-tail x (xs ++ ys) h)
+
+  -- A term below all others falls behind them.
+  pub falling-push : (ts : List (List ℕ × ℕ)) (t : List ℕ × ℕ) → IsFalling key ts → All (λ s. compare_by key s.0 t.0 ≡ Greater) ts → IsFalling key (ts ++ t ∷ [])
+  falling-push [] t h below = tt
+  falling-push (s ∷ []) t h below = (All-head (λ s. compare_by key s.0 t.0 ≡ Greater) s [] below, tt)
+  falling-push (s ∷ u ∷ ts) t h below = (h.0, falling-push (u ∷ ts) t h.1 (All-tail (λ s. compare_by key s.0 t.0 ≡ Greater) s (u ∷ ts) below))
 
   -- The first term is above each later one.
   falling-first : (t : List ℕ × ℕ) (ts : List (List ℕ × ℕ)) → IsFalling key (t ∷ ts) → (k : ℕ) (d : List ℕ × ℕ) → k < length ts → compare_by key t.0 (get_or ts k d).0 ≡ Greater

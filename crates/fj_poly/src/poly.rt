@@ -1,5 +1,6 @@
-ghost use Rattle.std.specs.Prelude.{◌≡◌, ◌≢◌, ◌<◌, ◌↔◌, IfOk, IsErr, IsTrue, length, slice_get};
+ghost use Rattle.std.specs.Prelude.{◌≡◌, ◌≢◌, ◌<◌, ◌↔◌, ◌++◌, ◌∷◌, [], All, IfOk, IfErr, IsTrue, length, slice_get};
 ghost use Rattle.std.specs.Option.{option_map};
+ghost use Rattle.std.specs.declared.cmp.Ordering.TheVariants.{Greater};
 ghost use Rattle.std.specs.FinMap.{empty, len};
 ghost use Rattle.fj_theory.specs.MonomialOrder.{compare_by};
 ghost use Rattle.fj_theory.specs.Polynomial.{IsPolynomial, coefficient, degree, lead, sum, term, terms_falling};
@@ -72,6 +73,22 @@ impl<K: Coeff, O: Order> Poly<K, O> {
             terms,
             order: PhantomData,
         })
+    }
+
+    /// Puts the term c*m, which is below all terms in O, at the end.
+    pub fn push_term(&mut self, c: K, m: &Mono) -> Result<(), AllocError>
+        requires nonzero { K.rank c ≢ 0 }
+        requires below { All (λ t. compare_by O.key t.0 m.now.exponents ≡ Greater) (terms_falling O.key self.old) }
+        ensures value { IfOk result (λ _. self.new ≡ sum K.field self.old (term (K.rank c) m.now.exponents)) }
+        ensures terms { IfOk result (λ _. terms_falling O.key self.new ≡ terms_falling O.key self.old ++ (m.now.exponents, K.rank c) ∷ []) }
+        ensures unchanged { IfErr result (λ _. self.new ≡ self.old) }
+        ensures polynomial { IsPolynomial K.field self.new }
+    {
+        self.terms.push(Term {
+            coefficient: c,
+            monomial: *m,
+        })?;
+        Ok(())
     }
 
     /// The sum.
