@@ -15,3 +15,4 @@ pub mod Parts
 pub mod PartsList
 pub mod PartsExistence
 pub mod PartsRing
+pub mod OrderedPolynomials
