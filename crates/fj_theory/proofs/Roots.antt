@@ -14,14 +14,14 @@ use Rattle.fj_theory.proofs.Monomial.{rank_power, power_below}
 use Rattle.fj_theory.proofs.Frobenius.{raise, field-IsFrobenius}
 
 module _ {F : Field} (L : IsField F) where
-  one_not_zero : (K L).one ≢ (K L).zero
+  pub one_not_zero : (K L).one ≢ (K L).zero
   one_not_zero e = let ranks = sym (rank_one L) ∙ ap (λ x. x.rank) e ∙ rank_zero L in absurd (omega arith)
 
   -- An element that is not zero has an inverse.
-  inverse : (x : Element F) → 0 < x.rank → Element F
+  pub inverse : (x : Element F) → 0 < x.rank → Element F
   inverse x h = record { rank = F.inverse x.rank; below = L.inverse_below x.rank h x.below }
 
-  mul_inverse : (x : Element F) (h : 0 < x.rank) → (K L).mul x (inverse x h) ≡ (K L).one
+  pub mul_inverse : (x : Element F) (h : 0 < x.rank) → (K L).mul x (inverse x h) ≡ (K L).one
   unfolding inverse
   mul_inverse x h = element_equal _ _ (rank_mul L x (inverse x h) ∙ L.mul_inverse x.rank h x.below ∙ sym (rank_one L))
 
