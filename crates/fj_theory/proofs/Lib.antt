@@ -16,3 +16,4 @@ pub mod PartsList
 pub mod PartsExistence
 pub mod PartsRing
 pub mod OrderedPolynomials
+pub mod Degree

@@ -33,12 +33,12 @@ monomial_equal a b e =
     let pairs : ◌≡◌ {A = (c : List ℕ) × IsExponents c} (a.exponents, a.is_exponents) (b.exponents, b.is_exponents) = Σ_prop_path IsExponents-prop e in
     λ i. record { exponents = (pairs i).0; is_exponents = (pairs i).1 }
 
-pub times_monomial : Monomial → Monomial → Monomial
+unfoldable pub times_monomial : Monomial → Monomial → Monomial
 times_monomial a b = record { exponents = plus a.exponents b.exponents; is_exponents = IsExponents-plus a.is_exponents b.is_exponents }
 
-quotient : (a b : Monomial) → Dec ((c : Monomial) × (times_monomial a c ≡ b))
+pub quotient_monomial : (a b : Monomial) → Dec ((c : Monomial) × (times_monomial a c ≡ b))
 unfolding times_monomial
-quotient a b = by (divides a.exponents b.exponents) refl
+quotient_monomial a b = by (divides a.exponents b.exponents) refl
   where
     by : (t : Bool) → divides a.exponents b.exponents ≡ t → Dec ((c : Monomial) × (times_monomial a c ≡ b))
     by true d =
@@ -46,7 +46,7 @@ quotient a b = by (divides a.exponents b.exponents) refl
     by false d = no (λ h. true≢false (sym (divides-plus a.is_exponents (h.0).is_exponents) ∙ ap (λ c. divides a.exponents c.exponents) h.1 ∙ d))
 
 -- The monomials in eight variables.
-pub monomials : algebra.Monomials Monomial
+unfoldable pub monomials : algebra.Monomials Monomial
 unfolding times_monomial
 monomials = record {
   one = record { exponents = origin; is_exponents = IsExponents-origin };
@@ -54,17 +54,17 @@ monomials = record {
   times_assoc = λ a b c. monomial_equal _ _ (plus_assoc a.exponents b.exponents c.exponents);
   times_comm = λ a b. monomial_equal _ _ (plus_comm a.exponents b.exponents);
   times_one = λ a. monomial_equal _ _ (plus_origin a.is_exponents);
-  quotient = quotient;
+  quotient = quotient_monomial;
 }
 
-plus-add_entries : (a b : List ℕ) → plus a b ≡ algebra.add_entries a b
+pub plus-add_entries : (a b : List ℕ) → plus a b ≡ algebra.add_entries a b
 unfolding plus algebra.add_entries
 plus-add_entries [] b = refl
 plus-add_entries (x ∷ a) [] = refl
 plus-add_entries (x ∷ a) (y ∷ b) = ap (λ c. (x + y) ∷ c) (plus-add_entries a b)
 
 -- The order of a key.
-pub monomial_order : {key : List ℕ → List ℕ} → IsMonomialOrder key → algebra.MonomialOrder monomials
+unfoldable pub monomial_order : {key : List ℕ → List ℕ} → IsMonomialOrder key → algebra.MonomialOrder monomials
 unfolding monomials times_monomial
 monomial_order {key} O = record {
   entries = 9;
@@ -95,23 +95,23 @@ Contains-with_proofs (b ∷ rs) all a h = by (same a.exponents b) refl h (Contai
     by false s g later = let k = later g in (suc k.0, omega (arith, k.1), k.2)
 
 module _ {F : Field} (L : IsField F) where
-  decide_zero : (x : Element F) → Dec (x ≡ (K L).zero)
+  pub decide_zero : (x : Element F) → Dec (x ≡ (K L).zero)
   decide_zero x = ⊎_elim (λ z. yes (element_equal _ _ (z ∙ sym (rank_zero L)))) (λ p. no (λ e. let z = ap (λ y. y.rank) e ∙ rank_zero L in absurd (omega arith))) (eq-zero-or-pos x.rank)
 
-  positive : (x : Element F) → x ≢ (K L).zero → 0 < x.rank
+  pub positive : (x : Element F) → x ≢ (K L).zero → 0 < x.rank
   positive x n = ⊎_elim (λ z. absurd (n (element_equal _ _ (z ∙ sym (rank_zero L))))) (λ p. p) (eq-zero-or-pos x.rank)
 
-  invert_by : (x : Element F) → Dec (x ≡ (K L).zero) → Element F
+  pub invert_by : (x : Element F) → Dec (x ≡ (K L).zero) → Element F
   invert_by x (yes z) = x
   invert_by x (no n) = inverse L x (positive x n)
 
-  mul_invert_by : (x : Element F) (d : Dec (x ≡ (K L).zero)) → x ≢ (K L).zero → (K L).mul x (invert_by x d) ≡ (K L).one
+  pub mul_invert_by : (x : Element F) (d : Dec (x ≡ (K L).zero)) → x ≢ (K L).zero → (K L).mul x (invert_by x d) ≡ (K L).one
   unfolding invert_by
   mul_invert_by x (yes z) n = absurd (n z)
   mul_invert_by x (no m) n = mul_inverse L x (positive x m)
 
   -- The field.
-  pub field_of_elements : algebra_polynomial.Field (Element F)
+  unfoldable pub field_of_elements : algebra_polynomial.Field (Element F)
   field_of_elements = record {
     ring = K L;
     inverse = λ x. invert_by x (decide_zero x);
@@ -121,33 +121,33 @@ module _ {F : Field} (L : IsField F) where
   }
 
   -- The coefficient of a polynomial as an element of the field, and a coefficient times a monomial.
-  pub coefficient_at : PolynomialOver F → Monomial → Element F
+  unfoldable pub coefficient_at : PolynomialOver F → Monomial → Element F
   coefficient_at f a = element L (coefficient f.map a.exponents)
 
-  pub term_at : Element F → Monomial → PolynomialOver F
+  unfoldable pub term_at : Element F → Monomial → PolynomialOver F
   term_at c a = record { map = term c.rank a.exponents; is_polynomial = IsPolynomial-term c.rank c.below a.is_exponents }
 
-  rank_coefficient_at : (f : PolynomialOver F) (a : Monomial) → (coefficient_at f a).rank ≡ coefficient f.map a.exponents
+  pub rank_coefficient_at : (f : PolynomialOver F) (a : Monomial) → (coefficient_at f a).rank ≡ coefficient f.map a.exponents
   unfolding coefficient_at
   rank_coefficient_at f a = rank_element L _ (coefficient_below f.is_polynomial (zero_below L) a.exponents)
 
-  equal_from_coefficients : (f g : PolynomialOver F) → ((a : Monomial) → coefficient_at f a ≡ coefficient_at g a) → f ≡ g
+  pub equal_from_coefficients : (f g : PolynomialOver F) → ((a : Monomial) → coefficient_at f a ≡ coefficient_at g a) → f ≡ g
   equal_from_coefficients f g e =
       over_equal f g (polynomial_equal f.is_polynomial g.is_polynomial (λ a A.
       let m : Monomial = record { exponents = a; is_exponents = A } in
       sym (rank_coefficient_at f m) ∙ ap (λ x. x.rank) (e m) ∙ rank_coefficient_at g m))
 
-  support_of : PolynomialOver F → List Monomial
+  pub support_of : PolynomialOver F → List Monomial
   support_of f = with_proofs (support f.map) (support_exponents f.is_polynomial)
 
-  support_of-covers : (f : PolynomialOver F) (a : Monomial) → coefficient_at f a ≢ (K L).zero → Contains (support_of f) a
+  pub support_of-covers : (f : PolynomialOver F) (a : Monomial) → coefficient_at f a ≢ (K L).zero → Contains (support_of f) a
   unfolding support_of
   support_of-covers f a n =
       Contains-with_proofs (support f.map) (support_exponents f.is_polynomial) a
       (support_listed f.map a.exponents (subst (λ c. 0 < c) (rank_coefficient_at f a) (positive (coefficient_at f a) n)))
 
   -- The ring of polynomials as one that is known by coefficients.
-  pub polynomials : algebra_polynomial.PolynomialRing (Element F) Monomial (PolynomialOver F)
+  unfoldable pub polynomials : algebra_polynomial.PolynomialRing (Element F) Monomial (PolynomialOver F)
   unfolding coefficient_at term_at monomials times_monomial field_of_elements
   polynomials = record {
     field = field_of_elements;
@@ -182,6 +182,6 @@ module _ {F : Field} (L : IsField F) where
       }))
 
   -- The polynomials with the order of a key.
-  pub ordered_polynomials : {key : List ℕ → List ℕ} → IsMonomialOrder key → algebra_polynomial.OrderedPolynomials (Element F) Monomial (PolynomialOver F)
+  unfoldable pub ordered_polynomials : {key : List ℕ → List ℕ} → IsMonomialOrder key → algebra_polynomial.OrderedPolynomials (Element F) Monomial (PolynomialOver F)
   unfolding polynomials
   ordered_polynomials O = record { polynomials = polynomials; order = monomial_order O }

@@ -64,7 +64,7 @@ coefficient_outside f a h = by (get f a) refl (contains_key-keys f a ∙ h)
     by None e h = coefficient-None f a e
     by (Some c) e h = absurd (true≢false h)
 
-support_found : (f : Polynomial) (a : List ℕ) → list_any (same a) (support f) ≡ true → get f a ≡ Some (coefficient f a)
+pub support_found : (f : Polynomial) (a : List ℕ) → list_any (same a) (support f) ≡ true → get f a ≡ Some (coefficient f a)
 unfolding coefficient
 support_found f a h = by (get f a) (contains_key-keys f a ∙ h)
   where
