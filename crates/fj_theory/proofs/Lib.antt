@@ -17,3 +17,4 @@ pub mod PartsExistence
 pub mod PartsRing
 pub mod OrderedPolynomials
 pub mod Degree
+pub mod TermMaps

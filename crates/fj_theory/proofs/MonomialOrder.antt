@@ -19,7 +19,7 @@ compare_by_total key = on_total key nat_list_cmp_total
 nat_cmp-plus : (x y z : ℕ) → nat_cmp (x + z) (y + z) ≡ nat_cmp x y
 nat_cmp-plus x y z = grind (arith, nat_tests)
 
-slice_cmp-plus : (x y z : List ℕ) → length x ≡ length z → length y ≡ length z → slice_cmp nat_cmp (plus x z) (plus y z) ≡ slice_cmp nat_cmp x y
+pub slice_cmp-plus : (x y z : List ℕ) → length x ≡ length z → length y ≡ length z → slice_cmp nat_cmp (plus x z) (plus y z) ≡ slice_cmp nat_cmp x y
 unfolding plus
 slice_cmp-plus [] [] z e f = refl
 slice_cmp-plus [] (v ∷ y) [] e f = absurd (omega arith)
@@ -119,7 +119,7 @@ nat_cmp-times n x y h =
     ⊎_elim (λ e. ap (λ z. nat_cmp (n * x) (n * z)) (sym e) ∙ tied_itself nat_cmp_total (n * x) ∙ sym (ap (nat_cmp x) (sym e) ∙ tied_itself nat_cmp_total x))
     (⊎_elim (λ l. nat_cmp_less _ _ (times_less n x y h l) ∙ sym (nat_cmp_less x y l)) (λ l. nat_cmp_greater _ _ (times_less n y x h l) ∙ sym (nat_cmp_greater x y l))) (cases_order x y)
 
-slice_cmp-times : (n : ℕ) (x y : List ℕ) → 0 < n → slice_cmp nat_cmp (times n x) (times n y) ≡ slice_cmp nat_cmp x y
+pub slice_cmp-times : (n : ℕ) (x y : List ℕ) → 0 < n → slice_cmp nat_cmp (times n x) (times n y) ≡ slice_cmp nat_cmp x y
 unfolding times
 slice_cmp-times n [] [] h = refl
 slice_cmp-times n [] (v ∷ y) h = refl

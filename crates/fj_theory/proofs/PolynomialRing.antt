@@ -40,7 +40,7 @@ module _ {F : Field} (L : IsField F) where
       polynomial_equal P Q (λ a A. sym (rank_element L _ (coefficient_below P (zero_below L) a))
       ∙ ap (λ x. x.rank) (sym (coefficient_in-terms L f a) ∙ e a ∙ coefficient_in-terms L g a) ∙ rank_element L _ (coefficient_below Q (zero_below L) a))
 
-  neg_zero_rank : F.neg 0 ≡ 0
+  pub neg_zero_rank : F.neg 0 ≡ 0
   neg_zero_rank =
       let n = L.neg_below 0 (zero_below L) in
       sym (L.add_zero (F.neg 0) n) ∙ L.add_comm (F.neg 0) 0 n (zero_below L) ∙ L.add_neg 0 (zero_below L)

@@ -92,6 +92,10 @@ module _ {F : Field} (L : IsField F) where
   pub field_power_zero : (e : ℕ) → field.power F 0 (F.characteristic ^ e) ≡ 0
   field_power_zero e = ap (λ d. field.power F d (F.characteristic ^ e)) (sym (rank_zero L)) ∙ sym (rank_power L (K L).zero (F.characteristic ^ e)) ∙ ap (λ x. x.rank) (field-IsFrobenius L e).ring_map.keeps_zero ∙ rank_zero L
 
+  pub field_power_positive : (e c : ℕ) → 0 < c → c < F.size → 0 < field.power F c (F.characteristic ^ e)
+  field_power_positive e c p h =
+      ⊎_elim (λ z. let n = power_injective e c 0 h (zero_below L) (z ∙ sym (field_power_zero e)) in absurd (omega arith)) (λ g. g) (eq-zero-or-pos (field.power F c (F.characteristic ^ e)))
+
   -- The root of zero is zero, and the root of what is not zero is not.
   pub iterated_root_zero : (e : ℕ) → iterated_root F e 0 ≡ 0
   iterated_root_zero e = power_injective e _ 0 (iterated_root_below e 0 (zero_below L)) (zero_below L) (power-iterated_root e 0 (zero_below L) ∙ sym (field_power_zero e))

@@ -70,7 +70,7 @@ module _ (key : List ℕ → List ℕ) where
   IsFalling-from_Falls (t ∷ []) h = tt
   IsFalling-from_Falls (t ∷ u ∷ ts) h = (All-head (λ v. compare_by key t.0 v.0 ≡ Greater) u ts h.0, IsFalling-from_Falls (u ∷ ts) h.1)
 
-  greater_apart : (a b : List ℕ) → compare_by key a b ≡ Greater → same a b ≡ false
+  pub greater_apart : (a b : List ℕ) → compare_by key a b ≡ Greater → same a b ≡ false
   greater_apart a b g = same_false a b (λ e. grind (arith, tied_itself (compare_by_total key) b, subst (λ c. compare_by key c b ≡ Greater) e g))
 
   greater_apart_back : (a b : List ℕ) → compare_by key a b ≡ Greater → same b a ≡ false
