@@ -3,7 +3,7 @@ use Rattle.std.specs.Prelude.{ℕ, ◌+◌, ◌-◌, ◌*◌, ◌%◌, ◌^◌}
 use Rattle.fj_coeff.specs.Field.{Field}
 
 -- GF(p). The inverse of a is a^(p-2), by Fermat, and each element is its own p-th root.
-unfoldable pub prime_field : ℕ → Field
+abbrev pub prime_field : ℕ → Field
 prime_field p = record {
   characteristic = p;
   size = p;

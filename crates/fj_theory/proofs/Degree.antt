@@ -11,10 +11,10 @@ use Rattle.std.proofs.lemmas.Map.Made.{All-is_member, is_member-Decides}
 use Rattle.fj_theory.proofs.FormalSum.{same, same-Decides, same_true}
 use Rattle.fj_theory.proofs.Polynomial.{support_found, support_listed, IsPolynomial-term, coefficient-term_same, coefficient-term}
 use Rattle.fj_theory.proofs.Keys.{grlex_key-IsMonomialOrder}
-use Rattle.fj_theory.proofs.OrderedPolynomials.{polynomials, field_of_elements, Monomial, ordered_polynomials, positive, coefficient_at, rank_coefficient_at, monomial_order, monomials, times_monomial}
+use Rattle.fj_theory.proofs.OrderedPolynomials.{Exponents, ordered_polynomials, polynomials, scalars, coefficient_at, monomial_order, monomials, times}
 use Rattle.fj_theory.proofs.PolynomialRing.{PolynomialOver, power_suc, map_mul, map_zero, power_zero, IsPolynomial-power}
-use Rattle.fj_theory.proofs.Field.{rank_zero, one_below}
-use Rattle.std.proofs.Common.{◌≡◌, ℕ, zero, suc, ◌<◌, ◌≤◌, true, max, List, [], ◌∷◌, map, fold, All, Contains, Some, nat_cmp, Less, sym, ap, ◌∙◌, subst, arith, ⊎_elim, le_antisymm, None, Bool, ◌⊎◌, ◌+◌, ◌*◌, ◌≢◌, cond, inl, zero-mul, Option, inr, ap₂, false, refl}
+use Rattle.fj_theory.proofs.Field.{rank_zero, one_below, element_equal}
+use Rattle.std.proofs.Common.{◌≡◌, ℕ, zero, suc, ◌<◌, ◌≤◌, true, max, List, [], ◌∷◌, map, fold, All, Contains, Some, nat_cmp, Less, sym, ap, ◌∙◌, subst, arith, ⊎_elim, le_antisymm, None, Bool, ◌⊎◌, ◌+◌, ◌*◌, ◌≢◌, cond, inl, zero-mul, Option, inr, ap₂, false, refl, eq-zero-or-pos}
 use Rattle.std.specs.List.{list_any, reduce}
 use Rattle.std.specs.Ordering.{ordering_then}
 use Rattle.std.specs.Cmp.Lexicographic.{slice_cmp}
@@ -88,34 +88,34 @@ degree-term F c {a} p h A =
 
 module _ {F : Field} (L : IsField F) where
   -- a is the lead of f in Grlex.
-  abbrev Lead : PolynomialOver F → Monomial → Type 0
+  abbrev Lead : PolynomialOver F → Exponents → Type 0
   Lead f a = algebra_polynomial.IsLead (ordered_polynomials L grlex_key-IsMonomialOrder) f a
 
-  module _ {f : PolynomialOver F} {a : Monomial} (lead : Lead f a) where
-    lead_positive : 0 < coefficient f.map a.exponents
-    unfolding ordered_polynomials polynomials field_of_elements
-    lead_positive = subst (λ c. 0 < c) (rank_coefficient_at L f a) (positive L (coefficient_at L f a) lead.nonzero)
+  module _ {f : PolynomialOver F} {a : Exponents} (lead : Lead f a) where
+    lead_positive : 0 < coefficient f.map a.list
+    unfolding ordered_polynomials polynomials scalars coefficient_at
+    lead_positive = ⊎_elim (λ z. absurd (lead.nonzero (element_equal _ _ (z ∙ sym (rank_zero L))))) (λ p. p) (eq-zero-or-pos (coefficient f.map a.list))
 
-    lead_total : (b : List ℕ) → IsExponents b → 0 < coefficient f.map b → total b ≤ total a.exponents
-    unfolding ordered_polynomials polynomials field_of_elements monomial_order
+    lead_total : (b : List ℕ) → IsExponents b → 0 < coefficient f.map b → total b ≤ total a.list
+    unfolding ordered_polynomials polynomials scalars coefficient_at monomial_order
     lead_total b B h =
         ⊎_elim
-        (λ g. let m : Monomial = record { exponents = b; is_exponents = B } in
-        let z = sym (rank_coefficient_at L f m) ∙ ap (λ x. x.rank) (lead.top m (record { is_less = grlex_smaller a.exponents b g })) ∙ rank_zero L in absurd (omega arith))
-        (λ g. g) (cases_lt (total a.exponents) (total b))
+        (λ g. let m : Exponents = record { list = b; is_exponents = B } in
+        let z = ap (λ x. x.rank) (lead.top m (record { is_less = grlex_smaller a.list b g })) ∙ rank_zero L in absurd (omega arith))
+        (λ g. g) (cases_lt (total a.list) (total b))
 
-    degree-lead : degree f.map ≡ Some (total a.exponents)
-    degree-lead = degree_from f.is_polynomial a.exponents lead_positive lead_total
+    degree-lead : degree f.map ≡ Some (total a.list)
+    degree-lead = degree_from f.is_polynomial a.list lead_positive lead_total
 
   module _ {f : Polynomial} (Q : IsPolynomial F f) where
     own : PolynomialOver F
     own = record { map = f; is_polynomial = Q }
 
-    lead_or_empty : (f ≡ empty) ⊎ ((a : Monomial) × Lead own a)
+    lead_or_empty : (f ≡ empty) ⊎ ((a : Exponents) × Lead own a)
     unfolding ordered_polynomials polynomials own
     lead_or_empty = ⊎_elim (λ z. inl (ap (λ x. x.map) z ∙ map_zero L)) (λ h. inr h) (lead_or_zero (ordered_polynomials L grlex_key-IsMonomialOrder) own)
 
-    degree_lead : (n : ℕ) → degree f ≡ Some n → (a : Monomial) × Lead own a × (total a.exponents ≡ n)
+    degree_lead : (n : ℕ) → degree f ≡ Some n → (a : Exponents) × Lead own a × (total a.list ≡ n)
     unfolding own
     degree_lead n e = ⊎_elim (λ z. absurd (none-some n (sym degree-empty ∙ ap degree (sym z) ∙ e))) (λ h. (h.0, h.1, same_Some _ _ (sym (degree-lead h.1) ∙ e))) lead_or_empty
 
@@ -126,7 +126,7 @@ module _ {F : Field} (L : IsField F) where
 
     pub degree_attained : {n : ℕ} → degree f ≡ Some n → (a : List ℕ) × IsExponents a × (0 < coefficient f a) × (total a ≡ n)
     unfolding own
-    degree_attained {n} e = let lead = degree_lead n e in ((lead.0).exponents, (lead.0).is_exponents, lead_positive lead.1, lead.2)
+    degree_attained {n} e = let lead = degree_lead n e in ((lead.0).list, (lead.0).is_exponents, lead_positive lead.1, lead.2)
 
     pub empty_from_degree : degree f ≡ None → f ≡ empty
     unfolding own
@@ -134,7 +134,7 @@ module _ {F : Field} (L : IsField F) where
 
   -- The degree of a product is the sum of the degrees.
   pub degree-product : {f g : Polynomial} → IsPolynomial F f → IsPolynomial F g → {m n : ℕ} → degree f ≡ Some m → degree g ≡ Some n → degree (product F f g) ≡ Some (m + n)
-  unfolding own ordered_polynomials polynomials monomials times_monomial
+  unfolding own ordered_polynomials polynomials monomials times
   degree-product {f} {g} Q H {m} {n} d e =
       let a = degree_lead Q m d in
       let b = degree_lead H n e in

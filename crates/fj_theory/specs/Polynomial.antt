@@ -1,5 +1,5 @@
 -- Polynomials in eight variables over a field on ranks, as finite maps from exponent lists to nonzero coefficients.
-use Rattle.std.specs.Prelude.{◌≡◌, ℕ, zero, suc, ◌<◌, ◌==◌, if◌then◌else◌, List, [], ◌∷◌, ◌++◌, map, unwrap_or, Option, Some, max}
+use Rattle.std.specs.Prelude.{slice_get, ◌≡◌, ℕ, zero, suc, ◌<◌, ◌==◌, if◌then◌else◌, List, [], ◌∷◌, ◌++◌, map, unwrap_or, Option, Some, max}
 use Rattle.std.specs.Ordering.{nat_cmp, is_gt}
 use Rattle.std.specs.declared.cmp.Ordering.TheVariants.{Greater}
 use Rattle.std.specs.List.{flat_map, reduce}
@@ -92,3 +92,8 @@ IsFalling key (t ∷ u ∷ more) = (compare_by key t.0 u.0 ≡ Greater) × IsFal
 -- The degree: the greatest total of a term, and none for the zero polynomial.
 unfoldable pub degree : Polynomial → Option ℕ
 degree f = reduce max (map total (support f))
+
+-- The lead in the order of the key: the exponents and the coefficient of the greatest term, and none for the zero
+-- polynomial.
+unfoldable pub lead : (List ℕ → List ℕ) → Polynomial → Option (List ℕ × ℕ)
+lead key f = slice_get (terms_falling key f) 0

@@ -1,0 +1,8 @@
+//! Monomials in eight variables and their orders. Nothing here takes memory.
+#![tactic(auto)]
+
+mod mono;
+mod order;
+
+pub use mono::{High, Mono};
+pub use order::{Grevlex, Lex, Order};

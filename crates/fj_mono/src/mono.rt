@@ -1,0 +1,123 @@
+ghost use Rattle.std.specs.Prelude.{◌≡◌, ◌+◌, ◌<◌, ◌≤◌, ◌^◌, ◌↔◌, ℕ, List, length, sum, slice_index, All, IfOk, IsErr};
+ghost use Rattle.fj_theory.specs.Exponents.{origin, plus, times};
+
+use std::marker::Model;
+
+/// The greatest total degree of a monomial, 2^40.
+pub const DEGREE_LIMIT: u64 = 1 << 40;
+
+/// A total degree above 2^40.
+#[derive(Clone, Copy, Debug, PartialEq, Eq)]
+pub struct High;
+
+/// A monomial in eight variables, of total degree at most 2^40. The eighth variable is auxiliary.
+#[derive(Clone, Copy, Debug, PartialEq, Eq, PartialOrd, Ord)]
+pub struct Mono {
+    exponents: [u64; 8],
+    ghost eight: { length exponents ≡ 8 },
+    ghost bounded: { sum exponents ≤ 2 ^ 40 },
+}
+
+impl Model for Mono {
+    ghost use Rattle.fj_mono.specs.Monomial.{Monomial, monomial_code};
+
+    ghost Value = { Monomial };
+
+    ghost coded = { monomial_code };
+
+    ghost view = { λ m. record { exponents = m.exponents; eight = m.eight; bounded = m.bounded } };
+
+    ghost inverse = { λ v. record { exponents = v.exponents; eight = v.eight; bounded = v.bounded } };
+}
+
+impl Mono {
+    /// The monomial 1.
+    #[tactic(auto, unfolding(fj_theory::specs::Exponents::origin))]
+    pub fn one() -> Mono
+        ensures { result.exponents ≡ origin }
+    {
+        Mono { exponents: [0; 8] }
+    }
+
+    /// The monomial with these exponents. `High` exactly where their sum is above 2^40.
+    pub fn new(e: [u64; 8]) -> Result<Mono, High>
+        ensures value { IfOk result (λ m. m.exponents ≡ e) }
+        ensures high { IsErr result ↔ (2 ^ 40 < sum e) }
+    {
+        let mut total = 0;
+        for exponent in e {
+            if exponent > DEGREE_LIMIT - total {
+                return Err(High);
+            }
+            total += exponent;
+        }
+        Ok(Mono { exponents: e })
+    }
+
+    /// The exponent of the variable at place i, counted from 0.
+    pub fn exp(&self, i: usize) -> u64
+        requires { i < 8 }
+        ensures { result ≡ slice_index self.now.exponents i }
+    {
+        self.exponents[i]
+    }
+
+    /// The total degree.
+    pub fn total(&self) -> u64
+        ensures { result ≡ sum self.now.exponents }
+    {
+        self.exponents.iter().sum()
+    }
+
+    /// The quotient b and the residue a of division by q in each exponent: the monomial is the product of the q-th
+    /// power of b and of a, and the exponents of a are below q.
+    pub fn split(&self, q: u64) -> (Mono, Mono)
+        requires { 1 ≤ q }
+        ensures whole { self.now.exponents ≡ plus (times q result.0.exponents) result.1.exponents }
+        ensures residue { All (λ k. k < q) result.1.exponents }
+    {
+        let quotient = self.exponents.map(|k| k / q);
+        let residue = self.exponents.map(|k| k % q);
+        (
+            Mono {
+                exponents: quotient,
+            },
+            Mono { exponents: residue },
+        )
+    }
+}
+
+#[cfg(test)]
+mod tests {
+    use super::*;
+
+    #[test]
+    fn limit_of_the_degree(rt: HostRuntime) {
+        assert!(rt; Mono::new([DEGREE_LIMIT, 0, 0, 0, 0, 0, 0, 0]).is_ok());
+        assert!(rt; Mono::new([DEGREE_LIMIT, 0, 0, 0, 0, 0, 0, 1]).is_err());
+        assert!(rt; Mono::new([u64::MAX; 8]).is_err());
+        assert!(rt; Mono::new([1, 0, 2, 0, 0, 0, 0, 4]).is_ok_and(|m| m.total() == 7));
+        assert_eq!(rt; Mono::one().total(), 0);
+    }
+
+    // x^14*y*z^6 is the cube of x^4*z^2 times x^2*y.
+    #[test]
+    fn division_with_residue(rt: HostRuntime) {
+        let m = Mono::new([14, 1, 6, 0, 0, 0, 0, 0]).expect(&rt, "a small degree");
+        let (quotient, residue) = m.split(3);
+        let wanted = [
+            (4, 2),
+            (0, 1),
+            (2, 0),
+            (0, 0),
+            (0, 0),
+            (0, 0),
+            (0, 0),
+            (0, 0),
+        ];
+        for (i, (b, a)) in wanted.into_iter().enumerate() {
+            assert_eq!(rt; quotient.exp(i), b);
+            assert_eq!(rt; residue.exp(i), a);
+        }
+    }
+}

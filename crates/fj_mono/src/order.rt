@@ -1,0 +1,130 @@
+ghost use Rattle.std.specs.Prelude.{◌≡◌, ◌<◌, ℕ, List};
+ghost use Rattle.fj_theory.specs.MonomialOrder.{IsMonomialOrder, compare_by, lex_key, grevlex_key};
+
+use crate::mono::Mono;
+use std::cmp::Ordering;
+
+/// A monomial order (Cox, Little and O'Shea 2015, chapter 2), given by a key: nine naturals for each exponent list, whose
+/// lexicographic order it is. The laws hold for exponent lists of any size: no two have one key, the key of a product is
+/// the sum of the keys, and no entry of a key is above the total degree.
+pub trait Order {
+    ghost key: { List ℕ → List ℕ };
+
+    ghost ROW: { ℕ };
+
+    /// The row of the order in the table Lex, Grlex, Grevlex, Elim, from 0.
+    const ROW: u8;
+
+    /// Whether a is less than, equal to or greater than b.
+    fn cmp(a: &Mono, b: &Mono) -> Ordering
+        ensures { result ≡ compare_by key a.now.exponents b.now.exponents };
+
+    ghost monomial_order: { IsMonomialOrder key };
+
+    ghost row_below: { ROW < 4 };
+}
+
+/// The lexicographic order: the first exponent that differs decides.
+pub struct Lex;
+
+/// The graded reverse lexicographic order: the total degree decides, and at equal totals the last exponent that
+/// differs, the smaller one being of the greater monomial.
+pub struct Grevlex;
+
+impl Order for Lex {
+    ghost use Rattle.std.proofs.Common.{rules};
+    ghost use Rattle.fj_mono.specs.OrderLaws.{lex_key-IsMonomialOrder};
+
+    ghost key = { lex_key };
+
+    ghost ROW = { 0 };
+
+    const ROW: u8 = 0;
+
+    fn cmp(a: &Mono, b: &Mono) -> Ordering {
+        a.cmp(b)
+    }
+
+    ghost monomial_order = { lex_key-IsMonomialOrder };
+
+    ghost row_below = { Prim.search rules };
+}
+
+impl Order for Grevlex {
+    ghost use Rattle.std.proofs.Common.{rules};
+    ghost use Rattle.fj_mono.specs.OrderLaws.{grevlex_key-IsMonomialOrder};
+
+    ghost key = { grevlex_key };
+
+    ghost ROW = { 2 };
+
+    const ROW: u8 = 2;
+
+    // The key is compared from its front: the sums of the first k exponents, for k from 8 down to 1.
+    fn cmp(a: &Mono, b: &Mono) -> Ordering {
+        let mut left = a.total();
+        let mut right = b.total();
+        let mut count = 8;
+        while count > 0 {
+            if left != right {
+                return left.cmp(&right);
+            }
+            count -= 1;
+            left -= a.exp(count);
+            right -= b.exp(count);
+        }
+        Ordering::Equal
+    }
+
+    ghost monomial_order = { grevlex_key-IsMonomialOrder };
+
+    ghost row_below = { Prim.search rules };
+}
+
+#[cfg(test)]
+mod tests {
+    use super::*;
+    use crate::mono::High;
+    use std::process::Abort;
+
+    fn orders<O: Order>(rt: &impl Abort, a: &Mono, b: &Mono, order: Ordering) {
+        assert!(rt; O::cmp(a, b) == order);
+        assert!(rt; O::cmp(b, a) == order.reverse());
+        assert!(rt; O::cmp(a, a) == Ordering::Equal);
+    }
+
+    // The examples of Cox, Little and O'Shea: in Lex x^3*y^2*z^4 is above x^3*y^2*z; in Grevlex x^4*y^7*z is above
+    // x^4*y^2*z^3, and x^5*y*z above x^4*y*z^2.
+    #[test]
+    fn textbook(rt: HostRuntime) -> Result<(), High> {
+        let low = Mono::new([3, 2, 1, 0, 0, 0, 0, 0])?;
+        orders::<Lex>(
+            &rt,
+            &Mono::new([3, 2, 4, 0, 0, 0, 0, 0])?,
+            &low,
+            Ordering::Greater,
+        );
+        orders::<Lex>(
+            &rt,
+            &Mono::new([0, 9, 9, 0, 0, 0, 0, 0])?,
+            &low,
+            Ordering::Less,
+        );
+        let low = Mono::new([4, 2, 3, 0, 0, 0, 0, 0])?;
+        orders::<Grevlex>(
+            &rt,
+            &Mono::new([4, 7, 1, 0, 0, 0, 0, 0])?,
+            &low,
+            Ordering::Greater,
+        );
+        let low = Mono::new([4, 1, 2, 0, 0, 0, 0, 0])?;
+        orders::<Grevlex>(
+            &rt,
+            &Mono::new([5, 1, 1, 0, 0, 0, 0, 0])?,
+            &low,
+            Ordering::Greater,
+        );
+        assert_eq!(rt; (Lex::ROW, Grevlex::ROW), (0, 2));
+        Ok(())
+    }
+}
