@@ -1,31 +1,30 @@
 -- The degree of a polynomial, and of a product.
-use Rattle.std.specs.FinMap.{len-empty}
+use Rattle.std.proofs.Common.{◌≡◌, ℕ, zero, suc, ◌<◌, ◌≤◌, true, max, List, [], ◌∷◌, map, fold, All, Contains, Some, nat_cmp, Less, sym, ap, ◌∙◌, subst, arith, ⊎_elim, le_antisymm, None, Bool, ◌⊎◌, ◌+◌, ◌*◌, ◌≢◌, cond, inl, zero-mul, Option, inr, ap₂, false, refl, eq-zero-or-pos}
+use Rattle.std.specs.FinMap.{len-empty, empty, entries, len-entries}
+use Rattle.std.specs.List.{list_any, reduce}
+use Rattle.std.specs.Ordering.{ordering_then}
+use Rattle.std.specs.Cmp.Lexicographic.{slice_cmp}
 use Rattle.std.proofs.lemmas.List.{nil_from_length}
-use Rattle.fj_algebra.proofs.Polynomial.{lead_or_zero}
-use Rattle.fj_algebra.proofs.Leads.{lead_product}
 use Rattle.std.proofs.lemmas.Option.{none-some, same_Some}
-use Rattle.fj_theory.proofs.Exponents.{IsExponents-origin, total_origin, total-plus_exponents}
-use Rattle.std.specs.FinMap.{empty, entries, len-entries}
 use Rattle.std.proofs.lemmas.Cmp.{eq_by_cmp_equiv, nat_list_cmp_total}
 use Rattle.std.proofs.lemmas.Map.Made.{All-is_member, is_member-Decides}
+use Rattle.std.proofs.lemmas.Bool.{cases_lt}
+use Rattle.std.proofs.lemmas.Bool.Decides.{nat_tests}
+use Rattle.std.proofs.lemmas.List.Elements.{All-nil, All-cons, All-head, All-tail, All-map, All-contains, All-weaker}
+use Rattle.fj_coeff.specs.Field.{Field, IsField}
+use Rattle.fj_algebra.specs.Polynomial as algebra_polynomial
+use Rattle.fj_algebra.proofs.Leads.{lead_product}
+use Rattle.fj_algebra.proofs.Polynomial.{lead_or_zero}
+use Rattle.fj_theory.specs.Exponents.{IsExponents, total}
+use Rattle.fj_theory.specs.MonomialOrder.{grlex_key}
+use Rattle.fj_theory.specs.Polynomial.{coefficient, support, degree, Polynomial, term, IsPolynomial, power, product}
+use Rattle.fj_theory.proofs.Exponents.{IsExponents-origin, total_origin, total-plus_exponents}
 use Rattle.fj_theory.proofs.FormalSum.{same, same-Decides, same_true}
 use Rattle.fj_theory.proofs.Polynomial.{support_found, support_listed, IsPolynomial-term, coefficient-term_same, coefficient-term}
 use Rattle.fj_theory.proofs.Keys.{grlex_key-IsMonomialOrder}
 use Rattle.fj_theory.proofs.OrderedPolynomials.{Exponents, ordered_polynomials, polynomials, scalars, coefficient_at, monomial_order, monomials, times}
 use Rattle.fj_theory.proofs.PolynomialRing.{PolynomialOver, power_suc, map_mul, map_zero, power_zero, IsPolynomial-power}
 use Rattle.fj_theory.proofs.Field.{rank_zero, one_below, element_equal}
-use Rattle.std.proofs.Common.{◌≡◌, ℕ, zero, suc, ◌<◌, ◌≤◌, true, max, List, [], ◌∷◌, map, fold, All, Contains, Some, nat_cmp, Less, sym, ap, ◌∙◌, subst, arith, ⊎_elim, le_antisymm, None, Bool, ◌⊎◌, ◌+◌, ◌*◌, ◌≢◌, cond, inl, zero-mul, Option, inr, ap₂, false, refl, eq-zero-or-pos}
-use Rattle.std.specs.List.{list_any, reduce}
-use Rattle.std.specs.Ordering.{ordering_then}
-use Rattle.std.specs.Cmp.Lexicographic.{slice_cmp}
-use Rattle.std.proofs.lemmas.Bool.{cases_lt}
-use Rattle.std.proofs.lemmas.Bool.Decides.{nat_tests}
-use Rattle.std.proofs.lemmas.List.Elements.{All-nil, All-cons, All-head, All-tail, All-map, All-contains, All-weaker}
-use Rattle.fj_coeff.specs.Field.{Field, IsField}
-use Rattle.fj_algebra.specs.Polynomial as algebra_polynomial
-use Rattle.fj_theory.specs.Exponents.{IsExponents, total}
-use Rattle.fj_theory.specs.MonomialOrder.{grlex_key}
-use Rattle.fj_theory.specs.Polynomial.{coefficient, support, degree, Polynomial, term, IsPolynomial, power, product}
 
 -- The greatest number of a list.
 fold_max_start : (x : ℕ) (xs : List ℕ) → x ≤ fold max x xs

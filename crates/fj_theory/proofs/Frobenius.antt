@@ -4,11 +4,11 @@ use Rattle.std.specs.FinMap.{empty}
 use Rattle.std.proofs.Math.Nat.{pow-zero}
 use Rattle.std.proofs.lemmas.Bool.{true≢false}
 use Rattle.std.proofs.lemmas.List.Elements.{All-from_recursion, All-contains}
-use Rattle.fj_coeff.specs.Field as field
 use Rattle.fj_coeff.specs.Field.{Field, IsField, primes}
-use Rattle.fj_algebra.specs.Ring.{CommutativeRing}
-use Rattle.fj_algebra.specs.Power as ring
+use Rattle.fj_coeff.specs.Field as field
 use Rattle.fj_algebra.specs.Frobenius.{HasCharacteristic, IsTablePrime, table_primes, IsFrobenius}
+use Rattle.fj_algebra.specs.Power as ring
+use Rattle.fj_algebra.specs.Ring.{CommutativeRing}
 use Rattle.fj_algebra.proofs.Frobenius.{IsFrobenius-power}
 use Rattle.fj_algebra.proofs.Sum.{sum_over-RingMap, sum_over-same, sum_over-zero}
 use Rattle.fj_theory.specs.Exponents.{origin, times}

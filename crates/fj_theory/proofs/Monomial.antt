@@ -2,10 +2,10 @@
 use Rattle.std.proofs.Common.{◌≡◌, ℕ, zero, suc, ◌<◌, Bool, true, false, cond, List, [], ◌∷◌, All, unwrap_or, refl, sym, ap, ap₂, ◌∙◌, subst}
 use Rattle.std.specs.FinMap.{empty, entries, entries_sorted, from_entries}
 use Rattle.std.proofs.lemmas.List.Elements.{All-cons, All-head, All-tail}
-use Rattle.fj_coeff.specs.Field as field
 use Rattle.fj_coeff.specs.Field.{Field, IsField}
-use Rattle.fj_algebra.specs.Sum.{sum_over}
+use Rattle.fj_coeff.specs.Field as field
 use Rattle.fj_algebra.specs.Power as ring
+use Rattle.fj_algebra.specs.Sum.{sum_over}
 use Rattle.fj_theory.specs.Exponents.{IsExponents, plus, minus, times, divides}
 use Rattle.fj_theory.specs.Polynomial.{Polynomial, IsPolynomial, IsTerm, coefficient, term, sum, product, power}
 use Rattle.fj_theory.proofs.Exponents.{IsExponents-plus, IsExponents-times, minus-plus, divides-plus, times_zero, times_suc}

@@ -4,8 +4,8 @@ use Rattle.std.specs.List.{list_any}
 use Rattle.std.specs.FinMap.{empty}
 use Rattle.std.proofs.lemmas.Bool.{true≢false, or_parts}
 use Rattle.std.proofs.lemmas.List.Elements.{All-head, All-tail, All-map}
-use Rattle.fj_coeff.specs.Field as field
 use Rattle.fj_coeff.specs.Field.{Field, IsField}
+use Rattle.fj_coeff.specs.Field as field
 use Rattle.fj_theory.specs.Exponents.{IsExponents, plus, minus, times, divides, quotient_by, residue_by}
 use Rattle.fj_theory.specs.Polynomial.{Polynomial, IsPolynomial, coefficient, term, product, power}
 use Rattle.fj_theory.specs.Parts.{Part, IsParts, sum_of_parts, part_at, iterated_root}

@@ -1,24 +1,24 @@
 -- Each polynomial has a list of parts, and the terms of a part fall where the polynomial's do.
-use Rattle.std.proofs.lemmas.Cmp.{eq_by_cmp_equiv, nat_list_cmp_total}
-use Rattle.std.proofs.lemmas.Map.Made.{All-is_member}
-use Rattle.fj_theory.proofs.Product.{entries_coefficients}
-use Rattle.fj_theory.proofs.PartsList.{part_terms_nonzero, IsParts-from_part_terms}
-use Rattle.std.specs.Cmp.Lexicographic.{slice_cmp}
-use Rattle.fj_theory.proofs.Polynomial.{support-with_coefficients, coefficient-with_coefficients, support_listed}
-use Rattle.fj_theory.proofs.Parts.{residues_of}
-use Rattle.fj_theory.proofs.Exponents.{IsExponents-times}
-use Rattle.fj_theory.proofs.MonomialOrder.{compare_by-plus, compare_by-times}
-use Rattle.fj_theory.proofs.Residues.{IsExponents-quotient_by, quotient-residue, IsExponents-residue_by, residue_by-below, IsRising-from_Rises, Rises-support}
-use Rattle.fj_theory.proofs.Frobenius.{power_positive}
 use Rattle.std.proofs.Common.{◌≡◌, ℕ, ◌^◌, ◌<◌, Bool, true, false, cond, if◌then◌else◌, List, [], ◌∷◌, ◌++◌, map, get_or, All, nat_cmp, Greater, refl, sym, ap, ap₂, ◌∙◌, subst, ◌≢◌, arith}
+use Rattle.std.specs.Cmp.Lexicographic.{slice_cmp}
 use Rattle.std.specs.List.{list_any}
 use Rattle.std.specs.FinMap.{empty, entries, from_entries}
+use Rattle.std.proofs.lemmas.Cmp.{eq_by_cmp_equiv, nat_list_cmp_total}
+use Rattle.std.proofs.lemmas.Map.Made.{All-is_member}
 use Rattle.std.proofs.lemmas.List.Elements.{All-nil, All-cons, All-head, All-tail, All-map, All-weaker}
 use Rattle.fj_coeff.specs.Field.{Field, IsField}
 use Rattle.fj_theory.specs.Exponents.{IsExponents, plus, times, quotient_by, residue_by}
 use Rattle.fj_theory.specs.MonomialOrder.{compare_by, IsMonomialOrder, IsRising, lex_key}
 use Rattle.fj_theory.specs.Polynomial.{Polynomial, IsPolynomial, IsFalling, coefficient, support, with_coefficients}
 use Rattle.fj_theory.specs.Parts.{Part, IsParts, part_terms, iterated_root}
+use Rattle.fj_theory.proofs.Product.{entries_coefficients}
+use Rattle.fj_theory.proofs.PartsList.{part_terms_nonzero, IsParts-from_part_terms}
+use Rattle.fj_theory.proofs.Polynomial.{support-with_coefficients, coefficient-with_coefficients, support_listed}
+use Rattle.fj_theory.proofs.Parts.{residues_of}
+use Rattle.fj_theory.proofs.Exponents.{IsExponents-times}
+use Rattle.fj_theory.proofs.MonomialOrder.{compare_by-plus, compare_by-times}
+use Rattle.fj_theory.proofs.Residues.{IsExponents-quotient_by, quotient-residue, IsExponents-residue_by, residue_by-below, IsRising-from_Rises, Rises-support}
+use Rattle.fj_theory.proofs.Frobenius.{power_positive}
 use Rattle.fj_theory.proofs.FormalSum.{same, same_true}
 use Rattle.fj_theory.proofs.Terms.{Falls, Falls-from_IsFalling, IsFalling-from_Falls, IsTerm-entries, from_entries-entries}
 

@@ -1,9 +1,4 @@
 -- The list of parts of a polynomial: it is the only one, it exists, and its terms come from those of the polynomial.
-use Rattle.fj_theory.proofs.Field.{zero_below}
-use Rattle.fj_theory.proofs.Terms.{coefficient-from_entries_cons, IsPolynomial-from_entries, find_All}
-use Rattle.fj_theory.specs.MonomialOrder.{IsRising, lex_key}
-use Rattle.fj_theory.proofs.Roots.{iterated_root_positive, iterated_root_below, iterated_root_zero, power-iterated_root}
-use Rattle.fj_theory.proofs.Frobenius.{power_positive}
 use Rattle.std.proofs.Common.{◌≡◌, ◌≢◌, ℕ, ◌^◌, ◌<◌, Bool, true, false, cond, ◌&&◌, ◌||◌, if◌then◌else◌, List, [], ◌∷◌, map, All, Some, None, nat_cmp, is_lt, Less, refl, sym, ap, ◌∙◌, subst, T, true≢false, arith, ap₂}
 use Rattle.std.specs.List.{list_any}
 use Rattle.std.specs.Cmp.Lexicographic.{slice_cmp}
@@ -12,11 +7,16 @@ use Rattle.std.specs.FinMap.Entries.{below_all, same_entries}
 use Rattle.std.proofs.lemmas.Cmp.{nat_list_cmp_total}
 use Rattle.std.proofs.lemmas.Map.Lookups.{exact_bytes}
 use Rattle.std.proofs.lemmas.List.Elements.{All-head, All-tail, All-map, All-nil, All-cons, All-weaker}
-use Rattle.fj_coeff.specs.Field as field
 use Rattle.fj_coeff.specs.Field.{Field, IsField}
+use Rattle.fj_coeff.specs.Field as field
+use Rattle.fj_theory.specs.MonomialOrder.{IsRising, lex_key}
 use Rattle.fj_theory.specs.Exponents.{IsExponents, residue_by, plus, quotient_by, times}
 use Rattle.fj_theory.specs.Polynomial.{Polynomial, IsTerm, coefficient, IsPolynomial}
 use Rattle.fj_theory.specs.Parts.{Part, IsParts, part_at, part_terms, iterated_root}
+use Rattle.fj_theory.proofs.Field.{zero_below}
+use Rattle.fj_theory.proofs.Terms.{coefficient-from_entries_cons, IsPolynomial-from_entries, find_All}
+use Rattle.fj_theory.proofs.Roots.{iterated_root_positive, iterated_root_below, iterated_root_zero, power-iterated_root}
+use Rattle.fj_theory.proofs.Frobenius.{power_positive}
 use Rattle.fj_theory.proofs.FormalSum.{same, same_false, same_true, same_itself}
 use Rattle.fj_theory.proofs.Polynomial.{All_same, coefficient-empty, coefficient_below, get-coefficient}
 use Rattle.fj_theory.proofs.Parts.{residues_of, IsFamily-from_IsParts, part_at_none, part_at_All, part_at_unique, IsFamily, whole_from_parts}

@@ -1,29 +1,29 @@
 -- The polynomials are a ring with parts over p^e-th powers: the residues are the exponent lists with entries below p^e.
+use Rattle.std.proofs.Common.{◌≡◌, ℕ, zero, suc, ◌^◌, ◌<◌, Bool, true, false, cond, List, [], ◌∷◌, length, map, get_or, All, Contains, refl, sym, ap, ap₂, ◌∙◌, subst, arith}
+use Rattle.std.specs.List.{list_any}
+use Rattle.std.specs.FinMap.{entries, from_entries}
+use Rattle.std.proofs.lemmas.Map.Made.{is_member-Decides}
+use Rattle.std.proofs.lemmas.List.Elements.{All-map, All-head, All-tail, All-weaker, All-from_recursion, All-contains}
+use Rattle.fj_coeff.specs.Field.{Field, IsField}
+use Rattle.fj_coeff.specs.Field as field
+use Rattle.fj_algebra.specs.Parts as ring
+use Rattle.fj_theory.specs.Exponents.{IsExponents, origin, plus, times}
+use Rattle.fj_theory.specs.Polynomial.{Polynomial, IsPolynomial, coefficient, term, sum, product, IsTerm}
+use Rattle.fj_theory.specs.Parts.{Part, sum_of_parts, part_at, part_terms, iterated_root}
 use Rattle.fj_theory.proofs.Exponents.{IsExponents-origin, plus_origin, IsExponents-times, times_origin}
 use Rattle.fj_theory.proofs.Product.{K}
 use Rattle.fj_theory.proofs.Monomial.{rank_power}
 use Rattle.fj_theory.proofs.Roots.{iterated_root_zero, iterated_root-power}
 use Rattle.fj_theory.proofs.Frobenius.{power_positive, polynomial-IsFrobenius, field-IsFrobenius, same-times}
-use Rattle.std.proofs.lemmas.Map.Made.{is_member-Decides}
 use Rattle.fj_theory.proofs.PartsExistence.{residues_of-map}
 use Rattle.fj_theory.proofs.Residues.{residues_below, residues_below-exponents, in_residues_below, residues_below-entries, Distinct, Distinct-from_Rises, Rises-residues_below}
 use Rattle.fj_theory.proofs.PartsList.{IsTerm-part_terms, coefficient-part_terms}
 use Rattle.fj_theory.proofs.Field.{one_below, rank_one}
-use Rattle.std.proofs.lemmas.List.Elements.{All-map, All-head, All-tail, All-weaker, All-from_recursion, All-contains}
 use Rattle.fj_theory.proofs.Terms.{IsPolynomial-from_entries, IsTerm-entries, from_entries-entries}
 use Rattle.fj_theory.proofs.Polynomial.{IsPolynomial-term, polynomial_equal, coefficient-term}
 use Rattle.fj_theory.proofs.Parts.{part_at_All, IsFamily, whole_from_roots, part_at_unique}
 use Rattle.fj_theory.proofs.PolynomialRing.{PolynomialOver, polynomial_ring, map_zero, map_add, map_mul, over_equal, map_power, map_one}
 use Rattle.fj_theory.proofs.FormalSum.{same, same-Decides}
-use Rattle.std.proofs.Common.{◌≡◌, ℕ, zero, suc, ◌^◌, ◌<◌, Bool, true, false, cond, List, [], ◌∷◌, length, map, get_or, All, Contains, refl, sym, ap, ap₂, ◌∙◌, subst, arith}
-use Rattle.std.specs.List.{list_any}
-use Rattle.std.specs.FinMap.{entries, from_entries}
-use Rattle.fj_coeff.specs.Field as field
-use Rattle.fj_coeff.specs.Field.{Field, IsField}
-use Rattle.fj_algebra.specs.Parts as ring
-use Rattle.fj_theory.specs.Exponents.{IsExponents, origin, plus, times}
-use Rattle.fj_theory.specs.Polynomial.{Polynomial, IsPolynomial, coefficient, term, sum, product, IsTerm}
-use Rattle.fj_theory.specs.Parts.{Part, sum_of_parts, part_at, part_terms, iterated_root}
 
 -- A list cut or filled with zeros to n entries.
 fit : ℕ → List ℕ → List ℕ

@@ -3,11 +3,11 @@ use Rattle.std.proofs.Common.{◌≡◌, ℕ, zero, suc, ◌+◌, ◌*◌, ◌<�
 use Rattle.std.specs.List.{list_any}
 use Rattle.std.specs.FinMap.{empty}
 use Rattle.fj_coeff.specs.Field.{Field, IsField}
+use Rattle.fj_algebra.specs.Power as ring
 use Rattle.fj_algebra.specs.Ring.{CommutativeRing}
 use Rattle.fj_algebra.specs.Sum.{sum_over}
-use Rattle.fj_algebra.specs.Power as ring
-use Rattle.fj_algebra.proofs.Ring.{add_zero, add_mul, mul_zero}
 use Rattle.fj_algebra.proofs.Power.{power-add, power-mul, power-power}
+use Rattle.fj_algebra.proofs.Ring.{add_zero, add_mul, mul_zero}
 use Rattle.fj_algebra.proofs.Sum.{sum_over-same, sum_over-exchange, sum_over-add}
 use Rattle.fj_theory.specs.Exponents.{IsExponents, origin, plus}
 use Rattle.fj_theory.specs.Polynomial.{Polynomial, IsPolynomial, coefficient, support, term, sum, negation, product, power}

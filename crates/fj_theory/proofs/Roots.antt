@@ -1,12 +1,12 @@
 -- Roots in the field: the p^e-th power map is injective, and the iterated root undoes it.
 use Rattle.std.proofs.Common.{◌≡◌, ◌≢◌, ℕ, zero, suc, ◌*◌, ◌^◌, ◌<◌, sym, ap, ◌∙◌, arith, ⊎_elim, eq-zero-or-pos, pow-suc}
 use Rattle.std.proofs.Math.Nat.{pow-zero}
-use Rattle.fj_coeff.specs.Field as field
 use Rattle.fj_coeff.specs.Field.{Field, IsField}
-use Rattle.fj_algebra.specs.Ring.{RingMap, subtract}
+use Rattle.fj_coeff.specs.Field as field
 use Rattle.fj_algebra.specs.Power as ring
-use Rattle.fj_algebra.proofs.Ring.{zero_mul, equal_from_subtract, keeps_subtract, subtract_self}
+use Rattle.fj_algebra.specs.Ring.{RingMap, subtract}
 use Rattle.fj_algebra.proofs.Power.{power-power, power-1}
+use Rattle.fj_algebra.proofs.Ring.{zero_mul, equal_from_subtract, keeps_subtract, subtract_self}
 use Rattle.fj_theory.specs.Parts.{iterated_root}
 use Rattle.fj_theory.proofs.Field.{Element, element_equal, zero_below, rank_zero, rank_one, rank_mul}
 use Rattle.fj_theory.proofs.Product.{K}

@@ -1,5 +1,14 @@
 -- Additive maps of polynomials that take terms to terms: on a falling list they work term by term.
+use Rattle.std.proofs.Common.{◌≡◌, ℕ, ◌^◌, ◌<◌, Bool, true, false, cond, List, [], ◌∷◌, map, All, unwrap_or, nat_cmp, Greater, refl, sym, ap, ap₂, ◌∙◌, arith, is_eq, ◌++◌, ⊎_elim, eq-zero-or-pos}
+use Rattle.std.specs.Cmp.Lexicographic.{slice_cmp}
+use Rattle.std.specs.FinMap.{empty, from_entries}
+use Rattle.std.proofs.lemmas.List.Elements.{All-nil, All-cons, All-head, All-tail, All-map, All-weaker, All-append}
+use Rattle.fj_coeff.specs.Field.{Field, IsField}
+use Rattle.fj_coeff.specs.Field as field
 use Rattle.fj_algebra.proofs.Ring.{neg_sum}
+use Rattle.fj_theory.specs.Exponents.{IsExponents, plus, times, origin}
+use Rattle.fj_theory.specs.MonomialOrder.{compare_by, IsMonomialOrder}
+use Rattle.fj_theory.specs.Polynomial.{Polynomial, IsPolynomial, IsTerm, IsFalling, coefficient, terms_falling, term, sum, negation, product, power}
 use Rattle.fj_theory.proofs.MonomialOrder.{slice_cmp-plus}
 use Rattle.fj_theory.proofs.Frobenius.{power_empty, same-times, power_sum, power_positive}
 use Rattle.fj_theory.proofs.Roots.{mul_positive, field_power_positive}
@@ -9,15 +18,6 @@ use Rattle.fj_theory.proofs.PolynomialRing.{product_sum, product_empty, neg_zero
 use Rattle.fj_theory.proofs.Monomial.{from_entries-cons, product_terms, power_below, power_term}
 use Rattle.fj_theory.proofs.Terms.{Apart, IsFalling-from_Falls, IsTerm-terms_falling, IsPolynomial-from_entries, terms_falling-from_entries, Falls-from_IsFalling, find_none, from_entries-terms_falling, Falls, terms_falling-IsFalling, greater_apart, coefficient-from_entries}
 use Rattle.fj_theory.proofs.FormalSum.{same}
-use Rattle.std.proofs.Common.{◌≡◌, ℕ, ◌^◌, ◌<◌, Bool, true, false, cond, List, [], ◌∷◌, map, All, unwrap_or, nat_cmp, Greater, refl, sym, ap, ap₂, ◌∙◌, arith, is_eq, ◌++◌, ⊎_elim, eq-zero-or-pos}
-use Rattle.std.specs.Cmp.Lexicographic.{slice_cmp}
-use Rattle.std.specs.FinMap.{empty, from_entries}
-use Rattle.std.proofs.lemmas.List.Elements.{All-nil, All-cons, All-head, All-tail, All-map, All-weaker, All-append}
-use Rattle.fj_coeff.specs.Field as field
-use Rattle.fj_coeff.specs.Field.{Field, IsField}
-use Rattle.fj_theory.specs.Exponents.{IsExponents, plus, times, origin}
-use Rattle.fj_theory.specs.MonomialOrder.{compare_by, IsMonomialOrder}
-use Rattle.fj_theory.specs.Polynomial.{Polynomial, IsPolynomial, IsTerm, IsFalling, coefficient, terms_falling, term, sum, negation, product, power}
 
 -- The term with its coefficient changed by u and its exponents by g.
 abbrev pub changed : (ℕ → ℕ) → (List ℕ → List ℕ) → List ℕ × ℕ → List ℕ × ℕ

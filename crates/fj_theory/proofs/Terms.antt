@@ -1,5 +1,4 @@
 -- Polynomials as falling lists of terms.
-use Rattle.fj_theory.proofs.Polynomial.{coefficient-empty}
 use Rattle.std.proofs.Common.{◌≡◌, ℕ, suc, Bool, true, false, cond, if◌then◌else◌, List, [], ◌∷◌, length, get_or, All, Option, Some, None, unwrap_or, nat_cmp, is_gt, Ordering, Less, Equal, Greater, refl, sym, ap, ◌∙◌, subst, arith, T, ◌<◌, ◌++◌, ◌≢◌}
 use Rattle.std.specs.Cmp.Lexicographic.{slice_cmp}
 use Rattle.std.specs.Ordering.{ordering_reverse}
@@ -14,6 +13,7 @@ use Rattle.fj_coeff.specs.Field.{Field}
 use Rattle.fj_theory.specs.Exponents.{IsExponents}
 use Rattle.fj_theory.specs.MonomialOrder.{compare_by, IsMonomialOrder}
 use Rattle.fj_theory.specs.Polynomial.{Polynomial, IsPolynomial, IsTerm, coefficient, place, sort_falling, terms_falling, IsFalling}
+use Rattle.fj_theory.proofs.Polynomial.{coefficient-empty}
 use Rattle.fj_theory.proofs.MonomialOrder.{compare_by_total, compare_by_exact}
 use Rattle.fj_theory.proofs.FormalSum.{same, same_true, same_itself, same_false}
 use Rattle.fj_theory.proofs.Product.{T_left, T_right, All_above, below_not_same, entries_get}
