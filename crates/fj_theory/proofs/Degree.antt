@@ -63,7 +63,8 @@ grlex_smaller a b h = first_less (total a) (total b) (slice_cmp nat_cmp a b) h
     first_less x y o h = grind (arith, nat_tests)
 
 -- The degree is the greatest total of an exponent list with a coefficient.
-pub degree_from : {F : Field} {f : Polynomial} → IsPolynomial F f → (a : List ℕ) → 0 < coefficient f a → ((b : List ℕ) → IsExponents b → 0 < coefficient f b → total b ≤ total a) → degree f ≡ Some (total a)
+pub degree_from : {F : Field} {f : Polynomial} → IsPolynomial F f → (a : List ℕ) → 0 < coefficient f a
+    → ((b : List ℕ) → IsExponents b → 0 < coefficient f b → total b ≤ total a) → degree f ≡ Some (total a)
 unfolding degree
 degree_from {F} {f} Q a p most =
     reduce_max (map total (support f)) (total a)
@@ -132,7 +133,8 @@ module _ {F : Field} (L : IsField F) where
     empty_from_degree e = ⊎_elim (λ z. z) (λ h. absurd (none-some _ (sym e ∙ degree-lead h.1))) lead_or_empty
 
   -- The degree of a product is the sum of the degrees.
-  pub degree-product : {f g : Polynomial} → IsPolynomial F f → IsPolynomial F g → {m n : ℕ} → degree f ≡ Some m → degree g ≡ Some n → degree (product F f g) ≡ Some (m + n)
+  pub degree-product : {f g : Polynomial} → IsPolynomial F f → IsPolynomial F g → {m n : ℕ} → degree f ≡ Some m → degree g ≡ Some n
+      → degree (product F f g) ≡ Some (m + n)
   unfolding own ordered_polynomials polynomials monomials times
   degree-product {f} {g} Q H {m} {n} d e =
       let a = degree_lead Q m d in
@@ -141,8 +143,10 @@ module _ {F : Field} (L : IsField F) where
       ∙ ap Some (total-plus_exponents (a.0).is_exponents (b.0).is_exponents ∙ ap₂ ◌+◌ a.2 b.2)
 
   pub degree-power : {f : Polynomial} → IsPolynomial F f → {n : ℕ} → degree f ≡ Some n → (k : ℕ) → degree (power F f k) ≡ Some (k * n)
-  degree-power {f} Q {n} d zero = ap degree (power_zero L Q) ∙ degree-term F 1 (omega arith) (one_below L) IsExponents-origin ∙ ap Some (total_origin ∙ sym (zero-mul n))
-  degree-power {f} Q {n} d (suc k) = ap degree (power_suc L Q k) ∙ degree-product Q (IsPolynomial-power L Q k) d (degree-power Q d k) ∙ ap Some (omega arith)
+  degree-power {f} Q {n} d zero = ap degree (power_zero L Q) ∙ degree-term F 1 (omega arith) (one_below L) IsExponents-origin
+      ∙ ap Some (total_origin ∙ sym (zero-mul n))
+  degree-power {f} Q {n} d (suc k) = ap degree (power_suc L Q k) ∙ degree-product Q (IsPolynomial-power L Q k) d (degree-power Q d k)
+      ∙ ap Some (omega arith)
 
   -- A product is zero only where a factor is.
   pub product_nonzero : {f g : Polynomial} → IsPolynomial F f → IsPolynomial F g → f ≢ empty → g ≢ empty → product F f g ≢ empty

@@ -63,7 +63,8 @@ nothing_less : (Q : List ℕ → Type 0) → LessHold 0 Q []
 nothing_less Q [] f l = cc
 nothing_less Q (y ∷ j) f l = absurd (omega arith)
 
-less_by_head : (n : ℕ) (Q : List ℕ → Type 0) (x : ℕ) → ((y : ℕ) → y < x → (k : List ℕ) → length k ≡ n → Q (y ∷ k)) → (k : List ℕ) → LessHold n (λ j. Q (x ∷ j)) k → LessHold (suc n) Q (x ∷ k)
+less_by_head : (n : ℕ) (Q : List ℕ → Type 0) (x : ℕ) → ((y : ℕ) → y < x → (k : List ℕ) → length k ≡ n → Q (y ∷ k)) → (k : List ℕ)
+    → LessHold n (λ j. Q (x ∷ j)) k → LessHold (suc n) Q (x ∷ k)
 less_by_head n Q x lower k inner [] g l = absurd (omega arith)
 less_by_head n Q x lower k inner (y ∷ j) g l =
     ⊎_elim (λ h. lower y h j (omega arith)) (λ h. subst (λ z. Q (z ∷ j)) (sym h.0) (inner j (omega arith) h.1)) (nat_cmp_split y x (slice_cmp nat_cmp j k) l)
@@ -86,9 +87,11 @@ module _ {key : List ℕ → List ℕ} (O : IsMonomialOrder key) where
   -- A product on both sides keeps the order.
   pub compare_by-plus : {a b c : List ℕ} → IsExponents a → IsExponents b → IsExponents c → compare_by key (plus a c) (plus b c) ≡ compare_by key a b
   compare_by-plus {a} {b} {c} A B C =
-      ap₂ (slice_cmp nat_cmp) (O.additive a c A C) (O.additive b c B C) ∙ slice_cmp-plus (key a) (key b) (key c) (O.nine a A ∙ sym (O.nine c C)) (O.nine b B ∙ sym (O.nine c C))
+      ap₂ (slice_cmp nat_cmp) (O.additive a c A C) (O.additive b c B C)
+      ∙ slice_cmp-plus (key a) (key b) (key c) (O.nine a A ∙ sym (O.nine c C)) (O.nine b B ∙ sym (O.nine c C))
 
-  pub compare_by-plus_left : {a b c : List ℕ} → IsExponents a → IsExponents b → IsExponents c → compare_by key (plus c a) (plus c b) ≡ compare_by key a b
+  pub compare_by-plus_left : {a b c : List ℕ} → IsExponents a → IsExponents b → IsExponents c
+      → compare_by key (plus c a) (plus c b) ≡ compare_by key a b
   compare_by-plus_left {a} {b} {c} A B C = ap₂ (compare_by key) (plus_comm c a) (plus_comm c b) ∙ compare_by-plus A B C
 
   key_origin : key origin ≡ replicate 9 0
@@ -99,7 +102,8 @@ module _ {key : List ℕ → List ℕ} (O : IsMonomialOrder key) where
   origin_least {a} A = ap (λ k. is_gt (slice_cmp nat_cmp k (key a))) key_origin ∙ slice_cmp_zeros 9 (key a) (O.nine a A)
 
   -- Strict induction along the order: what holds of an exponent list where it holds of each lesser one holds of all.
-  pub order_induction : (P : List ℕ → Type 0) → ((a : List ℕ) → IsExponents a → ((b : List ℕ) → IsExponents b → compare_by key b a ≡ Less → P b) → P a) → (a : List ℕ) → IsExponents a → P a
+  pub order_induction : (P : List ℕ → Type 0)
+      → ((a : List ℕ) → IsExponents a → ((b : List ℕ) → IsExponents b → compare_by key b a ≡ Less → P b) → P a) → (a : List ℕ) → IsExponents a → P a
   order_induction P step a A =
       lex_induction 9 (λ k. (b : List ℕ) → IsExponents b → key b ≡ k → P b)
       (λ k e lower b B f. step b B (λ c C l. lower (key c) (O.nine c C) (subst (λ j. slice_cmp nat_cmp (key c) j ≡ Less) f l) c C refl))
@@ -137,7 +141,8 @@ module _ {key : List ℕ → List ℕ} (O : IsMonomialOrder key) where
   -- The key of a power is the multiple of the key.
   pub key-times : (n : ℕ) {a : List ℕ} → IsExponents a → key (times n a) ≡ times n (key a)
   key-times zero {a} A = ap key (times_zero A) ∙ key_origin O ∙ sym (times_nothing (key a) 9 (O.nine a A))
-  key-times (suc n) {a} A = ap key (times_suc n a) ∙ O.additive a (times n a) A (IsExponents-times n A) ∙ ap (plus (key a)) (key-times n A) ∙ sym (times_suc n (key a))
+  key-times (suc n) {a} A = ap key (times_suc n a) ∙ O.additive a (times n a) A (IsExponents-times n A) ∙ ap (plus (key a)) (key-times n A)
+      ∙ sym (times_suc n (key a))
 
   -- A power on both sides keeps the order.
   pub compare_by-times : (n : ℕ) {a b : List ℕ} → 0 < n → IsExponents a → IsExponents b → compare_by key (times n a) (times n b) ≡ compare_by key a b

@@ -33,14 +33,16 @@ part_terms_push F e a (u ∷ ts) t = ap (λ r. if same a (residue_by (F.characte
     rest : List (List ℕ × ℕ)
     rest = part_terms F e a ts
 
-    by : (s r : Bool) (v w : List ℕ × ℕ) → (if s then v ∷ (if r then rest ++ w ∷ [] else rest) else (if r then rest ++ w ∷ [] else rest)) ≡ (if r then (if s then v ∷ rest else rest) ++ w ∷ [] else (if s then v ∷ rest else rest))
+    by : (s r : Bool) (v w : List ℕ × ℕ)
+        → (if s then v ∷ (if r then rest ++ w ∷ [] else rest) else (if r then rest ++ w ∷ [] else rest)) ≡ (if r then (if s then v ∷ rest else rest) ++ w ∷ [] else (if s then v ∷ rest else rest))
     by true true v w = refl
     by true false v w = refl
     by false true v w = refl
     by false false v w = refl
 
 module _ {key : List ℕ → List ℕ} (O : IsMonomialOrder key) {F : Field} (L : IsField F) (e : ℕ) (a : List ℕ) where
-  greater_quotient : {x y : List ℕ} → IsExponents x → IsExponents y → same a (residue_by (F.characteristic ^ e) x) ≡ true → same a (residue_by (F.characteristic ^ e) y) ≡ true
+  greater_quotient : {x y : List ℕ} → IsExponents x → IsExponents y → same a (residue_by (F.characteristic ^ e) x) ≡ true
+      → same a (residue_by (F.characteristic ^ e) y) ≡ true
       → compare_by key (quotient_by (F.characteristic ^ e) x) (quotient_by (F.characteristic ^ e) y) ≡ compare_by key x y
   greater_quotient {x} {y} X Y s r =
       let q : ℕ = F.characteristic ^ e in
@@ -50,14 +52,16 @@ module _ {key : List ℕ → List ℕ} (O : IsMonomialOrder key) {F : Field} (L 
       sym (ap₂ (compare_by key) (sym (quotient-residue q x h)) (sym (quotient-residue q y h) ∙ ap (plus (times q (quotient_by q y))) (sym (same_true a _ r) ∙ same_true a _ s))
       ∙ compare_by-plus O (IsExponents-times q U) (IsExponents-times q V) (IsExponents-residue_by q X) ∙ compare_by-times O q h U V)
 
-  above_part_terms : {x : List ℕ} → IsExponents x → same a (residue_by (F.characteristic ^ e) x) ≡ true → (ts : List (List ℕ × ℕ)) → All (λ t. IsExponents t.0) ts
+  above_part_terms : {x : List ℕ} → IsExponents x → same a (residue_by (F.characteristic ^ e) x) ≡ true → (ts : List (List ℕ × ℕ))
+      → All (λ t. IsExponents t.0) ts
       → All (λ u. compare_by key x u.0 ≡ Greater) ts → All (λ u. compare_by key (quotient_by (F.characteristic ^ e) x) u.0 ≡ Greater) (part_terms F e a ts)
   unfolding part_terms
   above_part_terms {x} X s [] all above = All-nil (λ u. compare_by key (quotient_by (F.characteristic ^ e) x) u.0 ≡ Greater)
   above_part_terms {x} X s (t ∷ ts) all above =
       by (same a (residue_by (F.characteristic ^ e) t.0)) refl (above_part_terms X s ts (All-tail (λ t. IsExponents t.0) t ts all) (All-tail (λ u. compare_by key x u.0 ≡ Greater) t ts above))
     where
-      by : (r : Bool) → same a (residue_by (F.characteristic ^ e) t.0) ≡ r → All (λ u. compare_by key (quotient_by (F.characteristic ^ e) x) u.0 ≡ Greater) (part_terms F e a ts)
+      by : (r : Bool) → same a (residue_by (F.characteristic ^ e) t.0) ≡ r
+          → All (λ u. compare_by key (quotient_by (F.characteristic ^ e) x) u.0 ≡ Greater) (part_terms F e a ts)
           → All (λ u. compare_by key (quotient_by (F.characteristic ^ e) x) u.0 ≡ Greater) (if r then (quotient_by (F.characteristic ^ e) t.0, iterated_root F e t.1) ∷ part_terms F e a ts else part_terms F e a ts)
       by true r rest =
           All-cons (λ u. compare_by key (quotient_by (F.characteristic ^ e) x) u.0 ≡ Greater) (quotient_by (F.characteristic ^ e) t.0, iterated_root F e t.1) (part_terms F e a ts)

@@ -40,7 +40,8 @@ module _ {F : Field} (L : IsField F) {Φ : Polynomial → Polynomial} {u : ℕ �
   changed_terms : (ts : List (List ℕ × ℕ)) → All (IsTerm F) ts → All (IsTerm F) (map (changed u g) ts)
   changed_terms ts all = All-map (IsTerm F) (changed u g) ts (λ k d h. M.keeps_terms _ (all k d h))
 
-  changed_apart : (t : List ℕ × ℕ) (ts : List (List ℕ × ℕ)) → IsTerm F t → All (IsTerm F) ts → All (λ v. same t.0 v.0 ≡ false) ts → All (λ v. same (g t.0) v.0 ≡ false) (map (changed u g) ts)
+  changed_apart : (t : List ℕ × ℕ) (ts : List (List ℕ × ℕ)) → IsTerm F t → All (IsTerm F) ts → All (λ v. same t.0 v.0 ≡ false) ts
+      → All (λ v. same (g t.0) v.0 ≡ false) (map (changed u g) ts)
   changed_apart t ts T all apart = All-map (λ v. same (g t.0) v.0 ≡ false) (changed u g) ts (λ k d h. M.injective t.0 _ T.exponents (all k d h).exponents ∙ apart k d h)
 
   -- The map works term by term.
@@ -51,7 +52,8 @@ module _ {F : Field} (L : IsField F) {Φ : Polynomial → Polynomial} {u : ℕ �
       let later = All-tail (IsTerm F) t ts all in
       let new : coefficient (from_entries ts) t.0 ≡ 0 = coefficient-from_entries ts t.0 ∙ ap (λ o. unwrap_or o 0) (find_none t.0 ts h.0) in
       let new' : coefficient (from_entries (map (changed u g) ts)) (g t.0) ≡ 0 =
-      coefficient-from_entries (map (changed u g) ts) (g t.0) ∙ ap (λ o. unwrap_or o 0) (find_none (g t.0) (map (changed u g) ts) (changed_apart t ts T later h.0)) in
+      coefficient-from_entries (map (changed u g) ts) (g t.0)
+      ∙ ap (λ o. unwrap_or o 0) (find_none (g t.0) (map (changed u g) ts) (changed_apart t ts T later h.0)) in
       ap Φ (from_entries-cons L t ts T later new) ∙ M.on_sum (IsPolynomial-term t.1 T.below T.exponents) (IsPolynomial-from_entries ts later)
       ∙ ap₂ (sum F) (M.on_term t T) (term_by_term ts later h.1)
       ∙ sym (from_entries-cons L (changed u g t) (map (changed u g) ts) (M.keeps_terms t T) (changed_terms ts later) new')
@@ -113,7 +115,8 @@ module _ {F : Field} (L : IsField F) where
       }
 
   -- The p^e-th power.
-  pub frobenius-IsTermMap : (e : ℕ) → IsTermMap F (λ f. power F f (F.characteristic ^ e)) (λ c. field.power F c (F.characteristic ^ e)) (times (F.characteristic ^ e))
+  pub frobenius-IsTermMap : (e : ℕ)
+      → IsTermMap F (λ f. power F f (F.characteristic ^ e)) (λ c. field.power F c (F.characteristic ^ e)) (times (F.characteristic ^ e))
   frobenius-IsTermMap e = record {
     on_zero = power_empty L e;
     on_sum = λ P Q. power_sum L P Q e;
@@ -134,7 +137,8 @@ module _ {F : Field} (L : IsField F) where
     on_sum = λ {f} {h} P Q.
         let x : PolynomialOver F = record { map = f; is_polynomial = P } in
         let y : PolynomialOver F = record { map = h; is_polynomial = Q } in
-        ap (negation F) (sym (map_add L x y)) ∙ sym (map_neg L ((polynomial_ring L).add x y)) ∙ ap (λ z. z.map) (neg_sum (polynomial_ring L) x y) ∙ map_add L _ _ ∙ ap₂ (sum F) (map_neg L x) (map_neg L y);
+        ap (negation F) (sym (map_add L x y)) ∙ sym (map_neg L ((polynomial_ring L).add x y)) ∙ ap (λ z. z.map) (neg_sum (polynomial_ring L) x y)
+        ∙ map_add L _ _ ∙ ap₂ (sum F) (map_neg L x) (map_neg L y);
     on_term = λ t T. polynomial_equal (IsPolynomial-negation L (IsPolynomial-term t.1 T.below T.exponents)) (IsPolynomial-term (F.neg t.1) (L.neg_below t.1 T.below) T.exponents)
         (λ a A. coefficient-negation L (term t.1 t.0) a ∙ ap F.neg (coefficient-term t.1 t.0 a) ∙ by t.1 (same a t.0) ∙ sym (coefficient-term (F.neg t.1) t.0 a));
     keeps_terms = λ t T. record { exponents = T.exponents; nonzero = neg_positive t.1 T.nonzero T.below; below = L.neg_below t.1 T.below };
@@ -145,7 +149,8 @@ module _ {F : Field} (L : IsField F) where
       by c true = refl
       by c false = neg_zero_rank L
 
-  append_apart : (xs ys : List (List ℕ × ℕ)) → All (IsTerm F) xs → All (IsTerm F) ys → Apart (xs ++ ys) → from_entries (xs ++ ys) ≡ sum F (from_entries xs) (from_entries ys)
+  append_apart : (xs ys : List (List ℕ × ℕ)) → All (IsTerm F) xs → All (IsTerm F) ys → Apart (xs ++ ys)
+      → from_entries (xs ++ ys) ≡ sum F (from_entries xs) (from_entries ys)
   append_apart [] ys all all' h =
       let Q = IsPolynomial-from_entries ys all' in
       sym (sum_comm L (IsPolynomial-empty F) Q ∙ sum_empty L Q)
@@ -160,5 +165,6 @@ module _ {F : Field} (L : IsField F) where
       ∙ ap (λ f. sum F f (from_entries ys)) (sym (from_entries-cons L t xs T later (zero_at xs (Apart-left (t ∷ xs) ys h).0)))
 
   -- A falling list in two pieces is the sum of the pieces.
-  pub from_entries-append : (key : List ℕ → List ℕ) (xs ys : List (List ℕ × ℕ)) → All (IsTerm F) xs → All (IsTerm F) ys → IsFalling key (xs ++ ys) → from_entries (xs ++ ys) ≡ sum F (from_entries xs) (from_entries ys)
+  pub from_entries-append : (key : List ℕ → List ℕ) (xs ys : List (List ℕ × ℕ)) → All (IsTerm F) xs → All (IsTerm F) ys → IsFalling key (xs ++ ys)
+      → from_entries (xs ++ ys) ≡ sum F (from_entries xs) (from_entries ys)
   from_entries-append key xs ys all all' h = append_apart xs ys all all' (Apart-from_Falls key (xs ++ ys) (Falls-from_IsFalling key (xs ++ ys) h))
