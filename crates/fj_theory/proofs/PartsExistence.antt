@@ -20,7 +20,7 @@ use Rattle.fj_theory.proofs.MonomialOrder.{compare_by-plus, compare_by-times}
 use Rattle.fj_theory.proofs.Residues.{IsExponents-quotient_by, quotient-residue, IsExponents-residue_by, residue_by-below, IsRising-from_Rises, Rises-support}
 use Rattle.fj_theory.proofs.Frobenius.{power_positive}
 use Rattle.fj_theory.proofs.FormalSum.{same, same_true}
-use Rattle.fj_theory.proofs.Terms.{Falls, Falls-from_IsFalling, IsFalling-from_Falls, IsTerm-entries, from_entries-entries}
+use Rattle.fj_theory.proofs.Terms.{Falls, Falls-from_IsFalling, IsFalling-from_Falls, IsTerm-entries, from_entries-entries, IsFalling-last}
 
 -- A term at the end of the list comes to the end of its part.
 pub part_terms_push : (F : Field) (e : ℕ) (a : List ℕ) (ts : List (List ℕ × ℕ)) (t : List ℕ × ℕ)
@@ -84,6 +84,15 @@ module _ {key : List ℕ → List ℕ} (O : IsMonomialOrder key) {F : Field} (L 
   -- The terms of a part fall in the order in which the polynomial's terms do.
   pub IsFalling-part_terms : (ts : List (List ℕ × ℕ)) → All (λ t. IsExponents t.0) ts → IsFalling key ts → IsFalling key (part_terms F e a ts)
   IsFalling-part_terms ts all h = IsFalling-from_Falls key (part_terms F e a ts) (Falls-part_terms ts all (Falls-from_IsFalling key ts h))
+
+  -- The last term of the list, where it is in the part, is below the part's other terms.
+  pub part_terms-last : (ts : List (List ℕ × ℕ)) (t : List ℕ × ℕ) → All (λ u. IsExponents u.0) (ts ++ t ∷ []) → IsFalling key (ts ++ t ∷ [])
+      → same a (residue_by (F.characteristic ^ e) t.0) ≡ true → All (λ u. compare_by key u.0 (quotient_by (F.characteristic ^ e) t.0) ≡ Greater) (part_terms F e a ts)
+  part_terms-last ts t all h s =
+      let b : List ℕ × ℕ = (quotient_by (F.characteristic ^ e) t.0, iterated_root F e t.1) in
+      IsFalling-last key (part_terms F e a ts) b
+      (subst (IsFalling key) (part_terms_push F e a ts t ∙ ap (λ r. if r then part_terms F e a ts ++ b ∷ [] else part_terms F e a ts) s)
+      (IsFalling-part_terms (ts ++ t ∷ []) all h))
 
 -- The list of parts: the residues of the terms in Lex, each with the terms of its part.
 unfoldable pub parts_of : Field → ℕ → Polynomial → List Part

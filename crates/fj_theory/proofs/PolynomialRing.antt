@@ -10,7 +10,6 @@ use Rattle.fj_algebra.proofs.Power.{power-add, power-mul, power-power}
 use Rattle.fj_algebra.proofs.Ring.{add_zero, add_mul, mul_zero}
 use Rattle.fj_algebra.proofs.Sum.{sum_over-same, sum_over-exchange, sum_over-add}
 use Rattle.fj_theory.specs.Exponents.{IsExponents, origin, plus}
-pub use Rattle.fj_theory.specs.Polynomial.{PolynomialOver}
 use Rattle.fj_theory.specs.Polynomial.{Polynomial, IsPolynomial, coefficient, support, term, sum, negation, product, power}
 use Rattle.fj_theory.proofs.Exponents.{plus_comm, plus_assoc, plus_origin, IsExponents-origin}
 use Rattle.fj_theory.proofs.Field.{Element, element, rank_element, element_zero, element_one, zero_below, one_below}
@@ -20,6 +19,7 @@ use Rattle.fj_theory.proofs.Product.{K, terms, coefficient_in-terms, terms_expon
 use native.Mathlib.Bridge.{le_prop}
 use native.Mathlib.Nat.{ℕ_set}
 use mathlib.Core.HLevel.{Σ_prop_path}
+pub use Rattle.fj_theory.specs.Polynomial.{PolynomialOver}
 
 IsPolynomial-prop : (F : Field) (f : Polynomial) → IsProp (IsPolynomial F f)
 IsPolynomial-prop F f = hlevel (le_prop, ℕ_set)

@@ -1,5 +1,6 @@
 -- Exponent lists by quotient and residue modulo q, and the residues.
 use Rattle.std.proofs.Common.{◌≡◌, ℕ, zero, suc, ◌+◌, ◌*◌, ◌/◌, ◌%◌, ◌<◌, ◌≤◌, Bool, true, false, cond, List, [], ◌∷◌, ◌++◌, length, map, flat_map, All, nat_cmp, Less, refl, sym, ap, ap₂, ◌∙◌, arith, mod-lt, T, ◌==◌, ◌||◌, is_eq, eqb-true}
+use Rattle.std.specs.List.Sorted.{IsStrictlySortedBy}
 use Rattle.std.specs.List.{list_any, range_with_len}
 use Rattle.std.specs.Cmp.Lexicographic.{slice_cmp}
 use Rattle.std.specs.Ordering.{ordering_then}
@@ -8,7 +9,7 @@ use Rattle.std.proofs.lemmas.Bool.{true≢false, eqb-false, or_left, or_right}
 use Rattle.std.proofs.lemmas.List.Folds.{list_any-append}
 use Rattle.std.proofs.lemmas.Cmp.{nat_list_cmp_total, nat_cmp_total, tied_itself}
 use Rattle.std.proofs.lemmas.List.{length-map}
-use Rattle.std.proofs.lemmas.List.Elements.{All-nil, All-cons, All-head, All-tail, All-append, All-map, All-weaker}
+use Rattle.std.proofs.lemmas.List.Elements.{All-from_recursion, All-nil, All-cons, All-head, All-tail, All-append, All-map, All-weaker}
 use Rattle.fj_theory.specs.Exponents.{IsExponents, plus, times, quotient_by, residue_by}
 use Rattle.fj_theory.specs.MonomialOrder.{compare_by, lex_key, IsRising}
 use Rattle.fj_theory.specs.Polynomial.{Polynomial, support, with_coefficients}
@@ -108,6 +109,15 @@ IsRising-from_Rises (a ∷ []) all h = tt
 IsRising-from_Rises (a ∷ b ∷ more) all h =
     let later = All-tail IsExponents a (b ∷ more) all in
     (compare_by-lex_key (All-head IsExponents a (b ∷ more) all) (All-head IsExponents b more later) ∙ All-head (λ c. slice_cmp nat_cmp a c ≡ Less) b more h.0, IsRising-from_Rises (b ∷ more) later h.1)
+
+Rises-from_IsStrictlySortedBy : (rs : List (List ℕ)) → IsStrictlySortedBy (slice_cmp nat_cmp) rs → Rises rs
+unfolding IsStrictlySortedBy
+Rises-from_IsStrictlySortedBy [] h = tt
+Rises-from_IsStrictlySortedBy (a ∷ more) h = (All-from_recursion (λ b. slice_cmp nat_cmp a b ≡ Less) more h.0, Rises-from_IsStrictlySortedBy more h.1)
+
+-- Exponent lists that rise as lists of numbers, as the keys of a map do, rise in Lex.
+pub IsRising-from_IsStrictlySortedBy : (rs : List (List ℕ)) → All IsExponents rs → IsStrictlySortedBy (slice_cmp nat_cmp) rs → IsRising lex_key rs
+IsRising-from_IsStrictlySortedBy rs all h = IsRising-from_Rises rs all (Rises-from_IsStrictlySortedBy rs h)
 
 pub Distinct-from_Rises : (rs : List (List ℕ)) → Rises rs → Distinct rs
 Distinct-from_Rises [] h = tt

@@ -1,5 +1,5 @@
 -- Roots in the field: the p^e-th power map is injective, and the iterated root undoes it.
-use Rattle.std.proofs.Common.{◌≡◌, ◌≢◌, ℕ, zero, suc, ◌*◌, ◌^◌, ◌<◌, sym, ap, ◌∙◌, arith, ⊎_elim, eq-zero-or-pos, pow-suc}
+use Rattle.std.proofs.Common.{refl, ◌≡◌, ◌≢◌, ℕ, zero, suc, ◌*◌, ◌^◌, ◌<◌, sym, ap, ◌∙◌, arith, ⊎_elim, eq-zero-or-pos, pow-suc}
 use Rattle.std.proofs.Math.Nat.{pow-zero}
 use Rattle.fj_coeff.specs.Field.{Field, IsField}
 use Rattle.fj_coeff.specs.Field as field
@@ -12,6 +12,12 @@ use Rattle.fj_theory.proofs.Field.{Element, element_equal, zero_below, rank_zero
 use Rattle.fj_theory.proofs.Product.{K}
 use Rattle.fj_theory.proofs.Monomial.{rank_power, power_below}
 use Rattle.fj_theory.proofs.Frobenius.{raise, field-IsFrobenius}
+
+-- One root more.
+pub iterated_root_next : (F : Field) (e c : ℕ) → iterated_root F (suc e) c ≡ F.root (iterated_root F e c)
+unfolding iterated_root
+iterated_root_next F zero c = refl
+iterated_root_next F (suc e) c = iterated_root_next F e (F.root c)
 
 module _ {F : Field} (L : IsField F) where
   pub one_not_zero : (K L).one ≢ (K L).zero

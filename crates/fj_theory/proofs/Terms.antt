@@ -300,6 +300,20 @@ IsTerm-terms_falling {F} {f} key P = All_sort key (IsTerm F) (entries f) (IsTerm
 pub from_entries-entries : (f : Polynomial) → from_entries (entries f) ≡ f
 from_entries-entries f = same_map nat_list_cmp_total exact_bytes _ f (λ q. get-from_entries nat_list_cmp_total (entries f) q ∙ sym (get-entries f q))
 
+module _ (key : List ℕ → List ℕ) where
+  Falls-last : (ts : Terms) (t : List ℕ × ℕ) → Falls key (ts ++ t ∷ []) → All (λ u. compare_by key u.0 t.0 ≡ Greater) ts
+  Falls-last [] t h = All-nil (λ u. compare_by key u.0 t.0 ≡ Greater)
+  Falls-last (u ∷ ts) t h =
+      All-cons (λ v. compare_by key v.0 t.0 ≡ Greater) u ts (last (λ v. compare_by key u.0 v.0 ≡ Greater) ts t h.0) (Falls-last ts t h.1)
+    where
+      last : (P : List ℕ × ℕ → Type 0) (ts : Terms) (t : List ℕ × ℕ) → All P (ts ++ t ∷ []) → P t
+      last P [] t all = All-head P t [] all
+      last P (u ∷ ts) t all = last P ts t (All-tail P u (ts ++ t ∷ []) all)
+
+  -- The last term of a falling list is below all others.
+  pub IsFalling-last : (ts : List (List ℕ × ℕ)) (t : List ℕ × ℕ) → IsFalling key (ts ++ t ∷ []) → All (λ u. compare_by key u.0 t.0 ≡ Greater) ts
+  IsFalling-last ts t h = Falls-last ts t (Falls-from_IsFalling key (ts ++ t ∷ []) h)
+
 -- A list that has a term is not the zero polynomial.
 pub from_entries_nonzero : (t : List ℕ × ℕ) (ts : List (List ℕ × ℕ)) → 0 < t.1 → from_entries {R = slice_cmp nat_cmp} (t ∷ ts) ≢ empty
 from_entries_nonzero t ts h e =
