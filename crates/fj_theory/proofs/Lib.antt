@@ -24,5 +24,7 @@ pub mod PartsList
 pub mod PointIdeal
 pub mod PartsExistence
 pub mod PartsRing
+pub mod Degree
+pub mod TermMaps
 pub mod RootParts
 pub mod TermLists

@@ -9,3 +9,4 @@ pub mod Colon
 pub mod Evaluation
 pub mod RootLaws
 pub mod PointIdeal
+pub mod PolynomialLaws
