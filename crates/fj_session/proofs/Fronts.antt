@@ -114,17 +114,19 @@ none_first false a c u h = refl
 digit_is_byte : (b : ℕ) → is_word_byte b ≡ false → is_ascii_digit b ≡ false
 digit_is_byte b h = none_first (is_in_range 48 57 b) (is_in_range 65 90 b) (is_in_range 97 122 b) (eqb b 95) h
 
+pub front_number : (bytes : List ℕ) (n : ℕ) → n ≡ prefix_len is_ascii_digit bytes → 0 < n → n ≤ 4 → IsNumber (take n bytes)
+front_number bytes n e some few =
+    let size : length (take n bytes) ≡ n = length-take-le n bytes (omega (arith, prefix_len-le-length is_ascii_digit bytes)) in
+    record { digit = subst (λ (m : ℕ). list_all is_ascii_digit (take m bytes) ≡ true) (sym e) (front_passes is_ascii_digit bytes); some = omega arith; few = omega arith }
+
 pub number_takes : (bytes : List ℕ) (x : List ℕ × List ℕ) → number_at bytes ≡ Some x → (bytes ≡ x.0 ++ x.1) × IsNumber x.0
 unfolding number_at
 number_takes bytes x e =
     let n = prefix_len is_ascii_digit bytes in
     let h = checked_some (ltb 0 n && leb n 4) (take n bytes, drop n bytes) x e in
     let counts = and_parts (ltb 0 n) (leb n 4) h.0 in
-    let some : 0 < n = ltb-true _ _ counts.0 in
-    let few : n ≤ 4 = leb-true _ _ counts.1 in
-    let size : length (take n bytes) ≡ n = length-take-le n bytes (prefix_len-le-length is_ascii_digit bytes) in
     subst (λ (y : List ℕ × List ℕ). (bytes ≡ y.0 ++ y.1) × IsNumber y.0) h.1
-      (front_takes is_ascii_digit bytes, record { digit = front_passes is_ascii_digit bytes; some = omega arith; few = omega arith })
+      (front_takes is_ascii_digit bytes, front_number bytes n refl (ltb-true _ _ counts.0) (leb-true _ _ counts.1))
 
 pub number_again : (digits rest : List ℕ) → IsNumber digits → EndsWord rest → number_at (digits ++ rest) ≡ Some (digits, rest)
 unfolding number_at

@@ -10,21 +10,14 @@ use Rattle.std.proofs.lemmas.Fmt.{decimal-digits_value, decimal_is_IsNumeral, di
 use Rattle.std.proofs.lemmas.List.{map-id, nil_from_length}
 use Rattle.std.proofs.lemmas.Slice.Eq.{bytes_eq-Decides}
 use Rattle.std.proofs.lemmas.Bool.Decides.{same_from_decides, Decides-like}
-use Rattle.std.proofs.lemmas.Str.Parse.{IsNumeralModel, numerals_by_value, digits_value_short}
 use Rattle.fj_session.specs.Form.{TermText, FormText, primes, IsWord, IsNumber, IsTerm, IsForm, is_prime, is_among, is_word_byte, joined, term_text, spelling, ring_line, poly_line, ask_line}
 use Rattle.fj_session.specs.Reading.{◌>>=◌, checked, after, word_at, number_at, listed, prime_at, are_distinct, variables_at, ring_line_at, terms_at, poly_line_at, ask_line_at, form_at}
+use Rattle.fj_session.proofs.Digits.{numerals, number_small}
 use Rattle.fj_session.proofs.Fronts.{bind_some, checked_some, some_is, after_takes, after_again, word_takes, word_again, number_takes, number_again, EndsWord}
 use Rattle.fj_session.proofs.Items.{Items, AreItems, listed_takes, listed_again}
 use Rattle.fj_session.proofs.Terms.{terms, terms_are}
 
 -- ---- the prime
-
--- the digits of a number, and their value
-pub numerals : IsNumeralModel (λ ds. list_all is_ascii_digit ds ≡ true) (digits_value 10)
-numerals = numerals_by_value (λ ds. list_all is_ascii_digit ds ≡ true) (search rules)
-
-pub number_small : (digits : List ℕ) → IsNumber digits → digits_value 10 digits < 10 ^ 4
-number_small digits h = digits_value_short numerals digits 4 h.digit h.few
 
 first_of : (xs ys bytes : List ℕ) → bytes ≡ xs ++ ys → 0 < length xs → get_or bytes 0 0 ≡ get_or xs 0 0
 first_of [] ys bytes e some = absurd (omega arith)
@@ -85,24 +78,24 @@ none_same_from : (word : List ℕ) (ws : List (List ℕ)) → AllByRecursion (λ
 none_same_from word [] h = refl
 none_same_from word (w ∷ ws) h = or_from (bytes_eq word w) (list_any (bytes_eq word) ws) h.0 (none_same_from word ws h.1)
 
-distinct_takes : (ws : List (List ℕ)) → are_distinct ws ≡ true → IsDistinct bytes_eq ws
-unfolding IsDistinct
-distinct_takes [] h = tt
-distinct_takes (w ∷ ws) h =
-    let both = and_parts (not (list_any (bytes_eq w) ws)) (are_distinct ws) h in
-    (none_same w ws (not-true _ both.0), distinct_takes ws both.1)
-
-distinct_again : (ws : List (List ℕ)) → IsDistinct bytes_eq ws → are_distinct ws ≡ true
-unfolding IsDistinct
-distinct_again [] h = refl
-distinct_again (w ∷ ws) h = and_from (not (list_any (bytes_eq w) ws)) (are_distinct ws) (not_from_false _ (none_same_from w ws h.0)) (distinct_again ws h.1)
-
 bytes_eq_sym : (a b : List ℕ) → bytes_eq a b ≡ bytes_eq b a
 bytes_eq_sym a b = same_from_decides (bytes_eq a b) (bytes_eq b a) (bytes_eq-Decides a b) (Decides-like (bytes_eq b a) sym sym (bytes_eq-Decides b a))
 
 among_is : (name : List ℕ) (ws : List (List ℕ)) → is_among ws name ≡ list_any (bytes_eq name) ws
 among_is name [] = refl
 among_is name (w ∷ ws) = rw (bytes_eq_sym w name, among_is name ws) refl
+
+distinct_takes : (ws : List (List ℕ)) → are_distinct ws ≡ true → IsDistinct bytes_eq ws
+unfolding IsDistinct
+distinct_takes [] h = tt
+distinct_takes (w ∷ ws) h =
+    let both = and_parts (not (is_among ws w)) (are_distinct ws) h in
+    (none_same w ws (sym (among_is w ws) ∙ not-true _ both.0), distinct_takes ws both.1)
+
+distinct_again : (ws : List (List ℕ)) → IsDistinct bytes_eq ws → are_distinct ws ≡ true
+unfolding IsDistinct
+distinct_again [] h = refl
+distinct_again (w ∷ ws) h = and_from (not (is_among ws w)) (are_distinct ws) (not_from_false _ (among_is w ws ∙ none_same_from w ws h.0)) (distinct_again ws h.1)
 
 record TakesVariables (bytes : List ℕ) (x : List (List ℕ) × List ℕ) : Type 0 where
   parts : bytes ≡ joined (codes ", ") x.0 ++ x.1

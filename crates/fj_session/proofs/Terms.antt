@@ -10,7 +10,7 @@ use Rattle.std.proofs.lemmas.List.{map-append, length-append, length-map}
 use Rattle.std.proofs.lemmas.List.Concat.{flat_map-append}
 use Rattle.fj_session.specs.Form.{PowerText, TermText, IsPower, IsTerm, IsWord, IsNumber, is_among, is_word_start, is_word_byte, power_text, exponent_text, factors, term_text, joined, degree}
 use Rattle.fj_session.specs.Reading.{◌>>=◌, checked, after, word_at, number_at, exponent_at, power_at, first_factor_at, term_at, more}
-use Rattle.fj_session.proofs.Fronts.{bind_some, checked_some, some_is, after_takes, after_again, after_none, word_takes, word_again, number_takes, number_again}
+use Rattle.fj_session.proofs.Fronts.{bind_some, checked_some, some_is, after_takes, after_again, after_none, word_takes, word_again, number_takes, number_again, EndsWord}
 use Rattle.fj_session.proofs.Items.{Items, AreItems, further, map_or_some, TakesFurther, more_takes, more_again}
 
 -- ---- powers
@@ -18,49 +18,54 @@ use Rattle.fj_session.proofs.Items.{Items, AreItems, further, map_or_some, Takes
 abbrev pub EndsPower : ℕ → Type 0
 EndsPower b = (is_word_byte b ≡ false) × (eqb b 94 ≡ false)
 
-exponent_takes : (variables : List (List ℕ)) (variable bytes : List ℕ) (x : PowerText × List ℕ) → IsWord variable → is_among variables variable ≡ true → exponent_at variable bytes ≡ Some x
-    → (variable ++ bytes ≡ power_text x.0 ++ x.1) × IsPower variables x.0
-exponent_takes variables variable bytes x word known e =
-    let P : PowerText × List ℕ → Type 0 = λ y. (variable ++ bytes ≡ power_text y.0 ++ y.1) × IsPower variables y.0 in
-    elim (map_or_some (after (codes "^") bytes) (λ rest. number_at rest >>= λ digits. Some (record { variable = variable; exponent = Some digits.0 }, digits.1)) (record { variable = variable; exponent = None }, bytes) x e) [
-      | inl none ↦ subst P none.1 (ap (λ t. t ++ bytes) (sym (append-nil variable)), record { word = word; known = known; exponent = tt })
+exponent_takes : (bytes : List ℕ) (x : Option (List ℕ) × List ℕ) → exponent_at bytes ≡ Some x → (bytes ≡ exponent_text x.0 ++ x.1) × IfSome x.0 IsNumber
+unfolding exponent_at
+exponent_takes bytes x e =
+    let P : Option (List ℕ) × List ℕ → Type 0 = λ y. (bytes ≡ exponent_text y.0 ++ y.1) × IfSome y.0 IsNumber in
+    elim (map_or_some (after (codes "^") bytes) (λ rest. number_at rest >>= λ digits. Some (Some digits.0, digits.1)) (None, bytes) x e) [
+      | inl none ↦ subst P none.1 (refl, tt)
       | inr found ↦
-          let a = bind_some (number_at found.0) (λ digits. Some (record { variable = variable; exponent = Some digits.0 }, digits.1)) x found.2 in
+          let a = bind_some (number_at found.0) (λ digits. Some (Some digits.0, digits.1)) x found.2 in
           let digits = number_takes found.0 a.0 a.1 in
-          subst P (some_is (record { variable = variable; exponent = Some a.0.0 }, a.0.1) x a.2)
-            (ap (λ t. variable ++ t) (after_takes (codes "^") bytes found.0 found.1 ∙ ap (λ t. codes "^" ++ t) digits.0) ∙ sym (append_assoc variable (codes "^" ++ a.0.0) a.0.1),
-             record { word = word; known = known; exponent = digits.1 })
+          subst P (some_is (Some a.0.0, a.0.1) x a.2) (after_takes (codes "^") bytes found.0 found.1 ∙ ap (λ t. codes "^" ++ t) digits.0, digits.1)
     ]
+
+exponent_again : (exponent : Option (List ℕ)) (rest : List ℕ) → IfSome exponent IsNumber → EndsPower (get_or rest 0 0) → exponent_at (exponent_text exponent ++ rest) ≡ Some (exponent, rest)
+unfolding exponent_at
+exponent_again None rest good end = rw (after_none 94 [] rest end.1) refl
+exponent_again (Some digits) rest good end = rw (after_again (codes "^") (digits ++ rest), number_again digits rest good end.0) refl
+
+ends_word : (exponent : Option (List ℕ)) (rest : List ℕ) → EndsPower (get_or rest 0 0) → EndsWord (exponent_text exponent ++ rest)
+ends_word None rest end = end.0
+ends_word (Some digits) rest end = refl
 
 power_takes : (variables : List (List ℕ)) (bytes : List ℕ) (x : PowerText × List ℕ) → power_at variables bytes ≡ Some x → (bytes ≡ power_text x.0 ++ x.1) × IsPower variables x.0
 unfolding power_at
 power_takes variables bytes x e =
-    let a = bind_some (word_at bytes) (λ word. checked (is_among variables word.0) word >>= λ known. exponent_at known.0 known.1) x e in
-    let b = bind_some (checked (is_among variables a.0.0) a.0) (λ known. exponent_at known.0 known.1) x a.2 in
+    let a = bind_some (word_at bytes) (λ word. checked (is_among variables word.0) word >>= λ known. exponent_at known.1 >>= λ exponent. Some (record { variable = known.0; exponent = exponent.0 }, exponent.1)) x e in
+    let b = bind_some (checked (is_among variables a.0.0) a.0) (λ known. exponent_at known.1 >>= λ exponent. Some (record { variable = known.0; exponent = exponent.0 }, exponent.1)) x a.2 in
+    let c = bind_some (exponent_at b.0.1) (λ exponent. Some (record { variable = b.0.0; exponent = exponent.0 }, exponent.1)) x b.2 in
     let known = checked_some (is_among variables a.0.0) a.0 b.0 b.1 in
-    let word = word_takes bytes a.0 a.1 in
-    let at_word : exponent_at a.0.0 a.0.1 ≡ Some x = subst (λ (w : List ℕ × List ℕ). exponent_at w.0 w.1 ≡ Some x) (sym known.1) b.2 in
-    let power = exponent_takes variables a.0.0 a.0.1 x word.1 known.0 at_word in
-    (word.0 ∙ power.0, power.1)
+    let word : (bytes ≡ b.0.0 ++ b.0.1) × IsWord b.0.0 = subst (λ (w : List ℕ × List ℕ). (bytes ≡ w.0 ++ w.1) × IsWord w.0) known.1 (word_takes bytes a.0 a.1) in
+    let among : is_among variables b.0.0 ≡ true = subst (λ (w : List ℕ × List ℕ). is_among variables w.0 ≡ true) known.1 known.0 in
+    let exponent = exponent_takes b.0.1 c.0 c.1 in
+    let made : PowerText = record { variable = b.0.0; exponent = c.0.0 } in
+    subst (λ (y : PowerText × List ℕ). (bytes ≡ power_text y.0 ++ y.1) × IsPower variables y.0) (some_is (made, c.0.1) x c.2)
+      (word.0 ∙ ap (λ t. b.0.0 ++ t) exponent.0 ∙ sym (append_assoc b.0.0 (exponent_text c.0.0) c.0.1), record { word = word.1; known = among; exponent = exponent.1 })
 
-power_again_at : (variables : List (List ℕ)) (variable : List ℕ) (exponent : Option (List ℕ)) (rest : List ℕ) → IsPower variables (record { variable = variable; exponent = exponent }) → EndsPower (get_or rest 0 0)
-    → power_at variables (power_text (record { variable = variable; exponent = exponent }) ++ rest) ≡ Some (record { variable = variable; exponent = exponent }, rest)
+power_again : (variables : List (List ℕ)) (p : PowerText) (rest : List ℕ) → IsPower variables p → EndsPower (get_or rest 0 0) → power_at variables (power_text p ++ rest) ≡ Some (p, rest)
 unfolding power_at
-power_again_at variables variable None rest good end =
-    let known : is_among variables variable ≡ true = good.known in
-    let regrouped : (variable ++ []) ++ rest ≡ variable ++ rest = ap (λ t. t ++ rest) (append-nil variable) in
-    ap (power_at variables) regrouped ∙ rw (word_again variable rest good.word end.0, known, after_none 94 [] rest end.1) refl
-power_again_at variables variable (Some digits) rest good end =
-    let known : is_among variables variable ≡ true = good.known in
-    let tail = codes "^" ++ (digits ++ rest) in
-    let regrouped : (variable ++ (codes "^" ++ digits)) ++ rest ≡ variable ++ tail = append_assoc variable (codes "^" ++ digits) rest in
-    ap (power_at variables) regrouped ∙ rw (word_again variable tail good.word refl, known, after_again (codes "^") (digits ++ rest), number_again digits rest good.exponent end.0) refl
+power_again variables p rest good end =
+    let known : is_among variables p.variable ≡ true = good.known in
+    let tail = exponent_text p.exponent ++ rest in
+    ap (power_at variables) (append_assoc p.variable (exponent_text p.exponent) rest)
+    ∙ rw (word_again p.variable tail good.word (ends_word p.exponent rest end), known, exponent_again p.exponent rest good.exponent end) refl
 
 abbrev pub powers : List (List ℕ) → Items
 powers variables = record { Item = PowerText; read = power_at variables; text = power_text; Good = IsPower variables; Ends = EndsPower }
 
 pub powers_are : (variables : List (List ℕ)) → AreItems (powers variables)
-powers_are variables = record { takes = power_takes variables; again = λ p rest good end. power_again_at variables p.variable p.exponent rest good end }
+powers_are variables = record { takes = power_takes variables; again = power_again variables }
 
 -- ---- the first factor of a term
 

@@ -1,11 +1,14 @@
 -- Reading a form from left to right. A reader answers what stands at the front of the bytes, and the bytes after it.
-use Rattle.std.specs.Prelude.{◌≡◌, ℕ, zero, suc, ◌==◌, Bool, true, ◌&&◌, not, nat_lt, nat_le, if◌then◌else◌, List, [], ◌∷◌, ◌++◌, length, take, drop, slice_index, Result, Ok, Err, None, Some, codes}
+use Rattle.std.specs.Prelude.{◌≡◌, ℕ, zero, suc, ◌==◌, Bool, true, ◌&&◌, not, nat_lt, nat_le, if◌then◌else◌, List, [], ◌∷◌, ◌++◌, length, map, take, drop, slice_index, Result, Ok, Err, None, Some, codes}
 use Rattle.std.specs.declared.option.Option.{Option}
 use Rattle.std.specs.Char.{is_ascii_digit}
-use Rattle.std.specs.List.{list_any, prefix_len}
-use Rattle.std.specs.Option.{option_map_or}
+use Rattle.std.specs.List.{prefix_len}
+use Rattle.std.specs.Option.{option_map, option_map_or}
 use Rattle.std.specs.Str.{bytes_eq}
 use Rattle.std.specs.Str.Parse.{digits_value}
+use Rattle.std.specs.Global.{Vec}
+use Rattle.fj_session.specs.declared.form.FormFault.{FormFault}
+use Rattle.fj_session.specs.declared.form.FormFault.TheVariants as faults
 use Rattle.fj_session.specs.Form.{PowerText, TermText, FormText, is_prime, is_word_start, is_word_byte, is_among, degree}
 
 infixl 10 ◌>>=◌
@@ -16,6 +19,25 @@ None >>= f = None
 -- the value, where the test passes
 abbrev pub checked : {A : Type 0} → Bool → A → Option A
 checked test x = if test then Some x else None
+
+-- What a function returned, seen by view, is what a reader answers.
+abbrev pub ReadsAs : {X Y : Type 0} → (X → Y) → Option X → Option Y → Type 0
+ReadsAs view None read = read ≡ None
+ReadsAs view (Some x) read = read ≡ Some (view x)
+
+-- The same of a function that may want memory.
+abbrev pub Gives : {X Y : Type 0} → (X → Y) → Result X FormFault → Option Y → Type 0
+Gives view (Ok x) read = read ≡ Some (view x)
+Gives view (Err faults.Form) read = read ≡ None
+Gives view (Err faults.Memory) read = Unit {0}
+
+-- the bytes of each word
+abbrev pub words_of : List (Vec ℕ) → List (List ℕ)
+words_of words = map (λ w. w.items) words
+
+-- the item as another sees it
+abbrev pub map_item : {X Y : Type 0} → (X → Y) → Option (X × List ℕ) → Option (Y × List ℕ)
+map_item view read = option_map (λ x. (view x.0, x.1)) read
 
 -- what comes after a text
 unfoldable pub after : List ℕ → List ℕ → Option (List ℕ)
@@ -56,7 +78,7 @@ prime_at bytes = do
 
 abbrev pub are_distinct : List (List ℕ) → Bool
 are_distinct [] = true
-are_distinct (word ∷ words) = not (list_any (bytes_eq word) words) && are_distinct words
+are_distinct (word ∷ words) = not (is_among words word) && are_distinct words
 
 unfoldable pub variables_at : List ℕ → Option (List (List ℕ) × List ℕ)
 variables_at bytes = do
@@ -74,17 +96,18 @@ ring_line_at bytes = do
 
 -- ---- the second line
 
--- a variable with its exponent, where one follows
-abbrev pub exponent_at : List ℕ → List ℕ → Option (PowerText × List ℕ)
-exponent_at variable bytes = option_map_or (λ rest. do
+-- an exponent, where one follows
+unfoldable pub exponent_at : List ℕ → Option (Option (List ℕ) × List ℕ)
+exponent_at bytes = option_map_or (λ rest. do
     digits ← number_at rest
-    Some (record { variable = variable; exponent = Some digits.0 }, digits.1)) (after (codes "^") bytes) (Some (record { variable = variable; exponent = None }, bytes))
+    Some (Some digits.0, digits.1)) (after (codes "^") bytes) (Some (None, bytes))
 
 unfoldable pub power_at : List (List ℕ) → List ℕ → Option (PowerText × List ℕ)
 power_at variables bytes = do
   word ← word_at bytes
   known ← checked (is_among variables word.0) word
-  exponent_at known.0 known.1
+  exponent ← exponent_at known.1
+  Some (record { variable = known.0; exponent = exponent.0 }, exponent.1)
 
 -- a coefficient, or else a power
 unfoldable pub first_factor_at : List (List ℕ) → List ℕ → Option (TermText × List ℕ)

@@ -1,5 +1,8 @@
 //! Sessions: what is read, what is answered, and what is written.
 #![tactic(auto)]
 
+mod form;
 mod input;
 pub mod outside;
+mod scan;
+mod term;
