@@ -1,6 +1,9 @@
 pub mod Digits
+pub mod Exponents
 pub mod Fronts
+pub mod Gathered
 pub mod Items
 pub mod KnownBytes
 pub mod Lines
+pub mod Places
 pub mod Terms

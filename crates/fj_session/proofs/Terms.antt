@@ -9,7 +9,7 @@ use Rattle.std.proofs.lemmas.Bool.{cases_Bool, and_parts, or_cases, leb-true, le
 use Rattle.std.proofs.lemmas.List.{map-append, length-append, length-map}
 use Rattle.std.proofs.lemmas.List.Concat.{flat_map-append}
 use Rattle.fj_session.specs.Form.{PowerText, TermText, IsPower, IsTerm, IsWord, IsNumber, is_among, is_word_start, is_word_byte, power_text, exponent_text, factors, term_text, joined, degree}
-use Rattle.fj_session.specs.Reading.{◌>>=◌, checked, after, word_at, number_at, exponent_at, power_at, first_factor_at, term_at, more}
+use Rattle.fj_session.specs.Reading.{◌>>=◌, checked, after, word_at, number_at, exponent_at, power_at, first_factor_at, term_at, more, with_powers}
 use Rattle.fj_session.proofs.Fronts.{bind_some, checked_some, some_is, after_takes, after_again, after_none, word_takes, word_again, number_takes, number_again, EndsWord}
 use Rattle.fj_session.proofs.Items.{Items, AreItems, further, map_or_some, TakesFurther, more_takes, more_again}
 
@@ -73,9 +73,6 @@ powers_are variables = record { takes = power_takes variables; again = power_aga
 joined-append : (between : List ℕ) (xs ys : List (List ℕ)) → 0 < length xs → joined between (xs ++ ys) ≡ joined between xs ++ further between ys
 joined-append between [] ys some = absurd (omega arith)
 joined-append between (x ∷ xs) ys some = ap (λ t. x ++ t) (flat_map-append (λ p. between ++ p) xs ys) ∙ sym (append_assoc x (further between xs) (further between ys))
-
-abbrev with_powers : TermText → List PowerText → TermText
-with_powers t others = record { coefficient = t.coefficient; powers = t.powers ++ others }
 
 term_text-more : (t : TermText) (others : List PowerText) → 0 < length (factors t) → term_text (with_powers t others) ≡ term_text t ++ further (codes "*") (map power_text others)
 term_text-more t others some =

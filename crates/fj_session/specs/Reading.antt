@@ -2,14 +2,14 @@
 use Rattle.std.specs.Prelude.{◌≡◌, ℕ, zero, suc, ◌==◌, Bool, true, ◌&&◌, not, nat_lt, nat_le, if◌then◌else◌, List, [], ◌∷◌, ◌++◌, length, map, take, drop, slice_index, Result, Ok, Err, None, Some, codes}
 use Rattle.std.specs.declared.option.Option.{Option}
 use Rattle.std.specs.Char.{is_ascii_digit}
-use Rattle.std.specs.List.{prefix_len}
+use Rattle.std.specs.List.{prefix_len, position_or_len}
 use Rattle.std.specs.Option.{option_map, option_map_or}
 use Rattle.std.specs.Str.{bytes_eq}
 use Rattle.std.specs.Str.Parse.{digits_value}
 use Rattle.std.specs.Global.{Vec}
 use Rattle.fj_session.specs.declared.form.FormFault.{FormFault}
 use Rattle.fj_session.specs.declared.form.FormFault.TheVariants as faults
-use Rattle.fj_session.specs.Form.{PowerText, TermText, FormText, is_prime, is_word_start, is_word_byte, is_among, degree}
+use Rattle.fj_session.specs.Form.{PowerText, TermText, FormText, is_prime, is_word_start, is_word_byte, is_among, value_or_one, degree}
 
 infixl 10 ◌>>=◌
 abbrev pub ◌>>=◌ : {A B : Type 0} → Option A → (A → Option B) → Option B
@@ -109,17 +109,38 @@ power_at variables bytes = do
   exponent ← exponent_at known.1
   Some (record { variable = known.0; exponent = exponent.0 }, exponent.1)
 
+-- the place of a variable among all
+abbrev pub place_of : List (List ℕ) → List ℕ → ℕ
+place_of variables word = position_or_len (λ v. bytes_eq v word) variables
+
+-- a power as the place of its variable and its exponent
+abbrev pub power_value : List (List ℕ) → PowerText → ℕ × ℕ
+power_value variables p = (place_of variables p.variable, value_or_one p.exponent)
+
 -- a coefficient, or else a power
 unfoldable pub first_factor_at : List (List ℕ) → List ℕ → Option (TermText × List ℕ)
 first_factor_at variables bytes = option_map_or (λ digits. Some (record { coefficient = Some digits.0; powers = [] }, digits.1)) (number_at bytes) (do
     power ← power_at variables bytes
     Some (record { coefficient = None; powers = power.0 ∷ [] }, power.1))
 
+abbrev pub is_small : TermText → Bool
+is_small t = nat_le (degree t.powers) 1000
+
+-- a first factor of a degree that isn't too high
+unfoldable pub small_factor_at : List (List ℕ) → List ℕ → Option (TermText × List ℕ)
+small_factor_at variables bytes = do
+  first ← first_factor_at variables bytes
+  checked (is_small first.0) first
+
+-- a term with more powers
+abbrev pub with_powers : TermText → List PowerText → TermText
+with_powers t others = record { coefficient = t.coefficient; powers = t.powers ++ others }
+
 unfoldable pub term_at : List (List ℕ) → List ℕ → Option (TermText × List ℕ)
 term_at variables bytes = do
   first ← first_factor_at variables bytes
   others ← more (power_at variables) (codes "*") (length bytes) first.1
-  checked (nat_le (degree (first.0.powers ++ others.0)) 1000) (record { coefficient = first.0.coefficient; powers = first.0.powers ++ others.0 }, others.1)
+  checked (is_small (with_powers first.0 others.0)) (with_powers first.0 others.0, others.1)
 
 unfoldable pub terms_at : List (List ℕ) → List ℕ → Option (List TermText × List ℕ)
 terms_at variables bytes = listed (term_at variables) (codes "+") 999 bytes

@@ -5,4 +5,5 @@ mod form;
 mod input;
 pub mod outside;
 mod scan;
+mod sum;
 mod term;

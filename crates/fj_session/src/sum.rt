@@ -1,0 +1,93 @@
+//! Powers and terms of a sum.
+ghost use Rattle.std.specs.Prelude.{ℕ, List, ◌≡◌, ◌<◌, ◌≤◌, length, IfSome, IfNone, OnSome, IsTrue, IsFalse};
+ghost use Rattle.std.specs.List.{IsDistinct};
+ghost use Rattle.std.specs.Str.{bytes_eq};
+ghost use Rattle.fj_session.specs.Form.{term_of, value_or_one, is_among};
+ghost use Rattle.fj_session.specs.Reading.{ReadsAs, Gives, words_of, map_item, exponent_at, place_of, power_value, power_at, small_factor_at, term_at, terms_at};
+
+use super::form::FormFault;
+use super::scan::{read_number, read_word, strip};
+use super::term::Term;
+use std::alloc::Global;
+
+/// A variable by its place among all, and its exponent.
+#[derive(Clone, Copy)]
+struct Power {
+    place: usize,
+    exponent: u64,
+}
+
+/// The place of a word among others.
+fn place_of(words: &[Vec<u8>], word: &[u8]) -> Option<usize>
+    ensures missing { IfNone result (IsFalse (is_among (words_of words.now) word.now)) }
+    ensures known { OnSome result (IsTrue (is_among (words_of words.now) word.now)) }
+    ensures place { IfSome result (λ i. i ≡ place_of (words_of words.now) word.now) }
+    ensures within { IfSome result (λ i. i < length words.now) }
+{
+    for (place, other) in words.iter().enumerate() {
+        if other.as_slice() == word {
+            return Some(place);
+        }
+    }
+    None
+}
+
+/// The exponent at the front, or 1.
+#[tactic(auto, unfolding(crate::specs::Reading::exponent_at))]
+fn read_exponent(bytes: &[u8]) -> Option<(u64, &[u8])>
+    ensures { ReadsAs {Y = ℕ × List ℕ} (λ n. (n.0, n.1.now)) result (map_item value_or_one (exponent_at bytes.now)) }
+{
+    match strip(bytes, b"^") {
+        Some(digits) => read_number(digits),
+        None => Some((1, bytes)),
+    }
+}
+
+/// The power at the front.
+#[tactic(auto, unfolding(crate::specs::Reading::power_at))]
+fn read_power<'a>(variables: &[Vec<u8>], bytes: &'a [u8]) -> Option<(Power, &'a [u8])>
+    ensures reads { ReadsAs {Y = (ℕ × ℕ) × List ℕ} (λ p. ((p.0.place, p.0.exponent), p.1.now)) result (map_item (power_value (words_of variables.now)) (power_at (words_of variables.now) bytes.now)) }
+    ensures within { IfSome result (λ p. p.0.place < length variables.now) }
+{
+    let (word, rest) = read_word(bytes)?;
+    let place = place_of(variables, word)?;
+    let (exponent, rest) = read_exponent(rest)?;
+    Some((Power { place, exponent }, rest))
+}
+
+/// The coefficient at the front, or else the power, as a term.
+#[tactic(auto, unfolding(crate::specs::Reading::small_factor_at, crate::specs::Reading::first_factor_at))]
+fn read_first_factor<'a>(variables: &[Vec<u8>], bytes: &'a [u8]) -> Option<(Term, &'a [u8])>
+    requires few { length variables.now ≤ 7 }
+    requires distinct { IsDistinct bytes_eq (words_of variables.now) }
+    ensures { ReadsAs {Y = (ℕ × List ℕ) × List ℕ} (λ t. ((t.0.coefficient, t.0.exponents), t.1.now)) result
+        (map_item (term_of (words_of variables.now)) (small_factor_at (words_of variables.now) bytes.now)) }
+{
+    if let Some((coefficient, rest)) = read_number(bytes) {
+        return Some((Term::constant(coefficient), rest));
+    }
+    let (power, rest) = read_power(variables, bytes)?;
+    let term = Term::constant(1).times(power.place, power.exponent)?;
+    Some((term, rest))
+}
+
+/// The term at the front.
+fn read_term<'a>(variables: &[Vec<u8>], bytes: &'a [u8]) -> Option<(Term, &'a [u8])>
+    requires few { length variables.now ≤ 7 }
+    requires distinct { IsDistinct bytes_eq (words_of variables.now) }
+    ensures { ReadsAs {Y = (ℕ × List ℕ) × List ℕ} (λ t. ((t.0.coefficient, t.0.exponents), t.1.now)) result
+        (map_item (term_of (words_of variables.now)) (term_at (words_of variables.now) bytes.now)) }
+{
+    let (mut term, mut rest) = read_first_factor(variables, bytes)?;
+
+    // Each factor takes a byte.
+    for _factor in 0..bytes.len() {
+        let Some(next) = strip(rest, b"*") else {
+            return Some((term, rest));
+        };
+        let (power, after) = read_power(variables, next)?;
+        term = term.times(power.place, power.exponent)?;
+        rest = after;
+    }
+    Some((term, rest))
+}
