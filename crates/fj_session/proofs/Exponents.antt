@@ -1,13 +1,13 @@
 -- The exponents of a term, as its powers come.
-use Rattle.std.proofs.Common.{◌≡◌, ℕ, zero, suc, ◌+◌, ◌-◌, ◌<◌, ◌≤◌, Bool, true, false, not, ◌||◌, cond, List, [], ◌∷◌, ◌++◌, length, map, replicate, get_or, set, sum, refl, sym, ap, subst, ◌∙◌, inl, inr, arith}
+use Rattle.std.proofs.Common.{◌≡◌, ℕ, zero, suc, ◌+◌, ◌-◌, ◌<◌, ◌≤◌, Bool, true, false, not, ◌||◌, cond, List, [], ◌∷◌, ◌++◌, length, map, replicate, get_or, set, sum, refl, append_assoc, append-nil, sym, ap, subst, ◌∙◌, inl, inr, arith}
 use Rattle.std.specs.List.{AllByRecursion, IsDistinct, list_any, position_or_len, sum_by}
 use Rattle.std.specs.Str.{bytes_eq}
 use Rattle.std.proofs.lemmas.Bool.{cases_Bool}
 use Rattle.std.proofs.lemmas.Bool.Decides.{same_from_decides, Decides-like}
-use Rattle.std.proofs.lemmas.List.{replicate-append-replicate}
-use Rattle.std.proofs.lemmas.List.Sums.{sum_by_push}
+use Rattle.std.proofs.lemmas.List.{replicate-append-replicate, length-append, length-map, length-replicate}
+use Rattle.std.proofs.lemmas.List.Sums.{sum_by_push, sum_by-set}
 use Rattle.std.proofs.lemmas.Slice.Eq.{bytes_eq-Decides}
-use Rattle.fj_session.specs.Form.{PowerText, value_or_one, degree, is_among, exponent_of, exponents_of}
+use Rattle.fj_session.specs.Form.{PowerText, value_or_one, degree, is_among, IsPower, exponent_of, exponents_of}
 use Rattle.fj_session.specs.Reading.{place_of}
 
 pub bytes_eq_sym : (a b : List ℕ) → bytes_eq a b ≡ bytes_eq b a
@@ -64,3 +64,34 @@ pub exponents-nil : (words : List (List ℕ)) → length words ≤ 8 → exponen
 exponents-nil words few =
     let all : length words + (8 - length words) ≡ 8 = omega arith in
     ap (λ s. s ++ replicate (8 - length words) 0) (no_exponents words) ∙ replicate-append-replicate (length words) (8 - length words) 0 ∙ ap (λ n. replicate n 0) all
+
+-- ---- their sum
+
+sum-raised : (es : List ℕ) (i e : ℕ) → i < length es → sum (set es i (get_or es i 0 + e)) ≡ sum es + e
+sum-raised es i e inside = omega (arith, sum_by-set (λ (x : ℕ). x) es i (get_or es i 0 + e) 0 inside)
+
+place_inside : (words : List (List ℕ)) (w : List ℕ) → is_among words w ≡ true → place_of words w < length words
+place_inside [] w known = absurd cc
+place_inside (v ∷ words) w known =
+    elim (cases_Bool (bytes_eq v w)) [
+      | inl here ↦ rw here (omega arith)
+      | inr other ↦ let still : is_among words w ≡ true = rw other at known in rw other (omega (arith, place_inside words w still))
+    ]
+
+length-exponents : (words : List (List ℕ)) (ps : List PowerText) → length words ≤ 8 → length (exponents_of words ps) ≡ 8
+length-exponents words ps few =
+    omega (arith, few, length-append (map (exponent_of ps) words) (replicate (8 - length words) 0), length-map words (exponent_of ps), length-replicate {A = ℕ} (8 - length words) 0)
+
+sum_more : (words : List (List ℕ)) (front rest : List PowerText) → length words ≤ 8 → IsDistinct bytes_eq words → AllByRecursion (IsPower words) rest → sum (exponents_of words front) ≡ degree front
+    → sum (exponents_of words (front ++ rest)) ≡ degree (front ++ rest)
+sum_more words front [] few distinct known so_far = subst (λ (s : List PowerText). sum (exponents_of words s) ≡ degree s) (sym (append-nil front)) so_far
+sum_more words front (p ∷ rest) few distinct known so_far =
+    let inside : place_of words p.variable < length (exponents_of words front) = omega (arith, place_inside words p.variable known.0.known, length-exponents words front few) in
+    let one : sum (exponents_of words (front ++ p ∷ [])) ≡ degree (front ++ p ∷ []) =
+        ap sum (exponents-push words front p distinct known.0.known) ∙ sum-raised (exponents_of words front) (place_of words p.variable) (value_or_one p.exponent) inside
+        ∙ ap (λ n. n + value_or_one p.exponent) so_far ∙ sym (sum_by_push (λ q. value_or_one q.exponent) front p) in
+    subst (λ (s : List PowerText). sum (exponents_of words s) ≡ degree s) (append_assoc front (p ∷ []) rest) (sum_more words (front ++ p ∷ []) rest few distinct known.1 one)
+
+-- the exponents of a term add up to its degree
+pub sum-exponents : (words : List (List ℕ)) (ps : List PowerText) → length words ≤ 8 → IsDistinct bytes_eq words → AllByRecursion (IsPower words) ps → sum (exponents_of words ps) ≡ degree ps
+sum-exponents words ps few distinct known = sum_more words [] ps few distinct known (ap sum (exponents-nil words few))

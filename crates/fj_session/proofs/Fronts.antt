@@ -23,7 +23,7 @@ pub checked_some : {A : Type 0} (b : Bool) (x y : A) → checked b x ≡ Some y 
 checked_some true x y e = (refl, cc)
 checked_some false x y e = absurd cc
 
-abbrev some_of : {A : Type 0} → A → Option A
+abbrev pub some_of : {A : Type 0} → A → Option A
 some_of x = Some x
 
 pub some_is : {A : Type 0} (x y : A) → some_of x ≡ some_of y → x ≡ y

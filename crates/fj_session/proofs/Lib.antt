@@ -6,4 +6,5 @@ pub mod Items
 pub mod KnownBytes
 pub mod Lines
 pub mod Places
+pub mod TermLoop
 pub mod Terms

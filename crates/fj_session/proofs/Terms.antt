@@ -39,7 +39,7 @@ ends_word : (exponent : Option (List ℕ)) (rest : List ℕ) → EndsPower (get_
 ends_word None rest end = end.0
 ends_word (Some digits) rest end = refl
 
-power_takes : (variables : List (List ℕ)) (bytes : List ℕ) (x : PowerText × List ℕ) → power_at variables bytes ≡ Some x → (bytes ≡ power_text x.0 ++ x.1) × IsPower variables x.0
+pub power_takes : (variables : List (List ℕ)) (bytes : List ℕ) (x : PowerText × List ℕ) → power_at variables bytes ≡ Some x → (bytes ≡ power_text x.0 ++ x.1) × IsPower variables x.0
 unfolding power_at
 power_takes variables bytes x e =
     let a = bind_some (word_at bytes) (λ word. checked (is_among variables word.0) word >>= λ known. exponent_at known.1 >>= λ exponent. Some (record { variable = known.0; exponent = exponent.0 }, exponent.1)) x e in
@@ -80,12 +80,12 @@ term_text-more t others some =
     ∙ joined-append (codes "*") (factors t) (map power_text others) some
 
 -- a term without the bound on its degree
-record IsStart (variables : List (List ℕ)) (t : TermText) : Type 0 where
-  coefficient : IfSome t.coefficient IsNumber
-  powers : AllByRecursion (IsPower variables) t.powers
-  some : 0 < length (factors t)
+pub record IsStart (variables : List (List ℕ)) (t : TermText) : Type 0 where
+  pub coefficient : IfSome t.coefficient IsNumber
+  pub powers : AllByRecursion (IsPower variables) t.powers
+  pub some : 0 < length (factors t)
 
-first_takes : (variables : List (List ℕ)) (bytes : List ℕ) (x : TermText × List ℕ) → first_factor_at variables bytes ≡ Some x → (bytes ≡ term_text x.0 ++ x.1) × IsStart variables x.0
+pub first_takes : (variables : List (List ℕ)) (bytes : List ℕ) (x : TermText × List ℕ) → first_factor_at variables bytes ≡ Some x → (bytes ≡ term_text x.0 ++ x.1) × IsStart variables x.0
 unfolding first_factor_at
 first_takes variables bytes x e =
     let P : TermText × List ℕ → Type 0 = λ y. (bytes ≡ term_text y.0 ++ y.1) × IsStart variables y.0 in
@@ -107,7 +107,7 @@ first_takes variables bytes x e =
 
 -- ---- terms
 
-all_append : {X : Type 0} (P : X → Type 0) (xs ys : List X) → AllByRecursion P xs → AllByRecursion P ys → AllByRecursion P (xs ++ ys)
+pub all_append : {X : Type 0} (P : X → Type 0) (xs ys : List X) → AllByRecursion P xs → AllByRecursion P ys → AllByRecursion P (xs ++ ys)
 all_append P [] ys h k = k
 all_append P (x ∷ xs) ys h k = (h.0, all_append P xs ys h.1 k)
 

@@ -1,14 +1,18 @@
 //! Powers and terms of a sum.
-ghost use Rattle.std.specs.Prelude.{ℕ, List, ◌≡◌, ◌<◌, ◌≤◌, length, IfSome, IfNone, OnSome, IsTrue, IsFalse};
+ghost use Rattle.std.specs.Prelude.{ℕ, List, ◌≡◌, ◌<◌, ◌≤◌, length, map, IfSome, IfNone, OnSome, IsTrue, IsFalse};
 ghost use Rattle.std.specs.List.{IsDistinct};
 ghost use Rattle.std.specs.Str.{bytes_eq};
 ghost use Rattle.fj_session.specs.Form.{term_of, value_or_one, is_among};
+ghost use Rattle.fj_session.specs.Held.{values_of};
 ghost use Rattle.fj_session.specs.Reading.{ReadsAs, Gives, words_of, map_item, exponent_at, place_of, power_value, power_at, small_factor_at, term_at, terms_at};
 
 use super::form::FormFault;
 use super::scan::{read_number, read_word, strip};
 use super::term::Term;
 use std::alloc::Global;
+
+/// The most terms of a sum.
+const MAX_TERMS: usize = 1000;
 
 /// A variable by its place among all, and its exponent.
 #[derive(Clone, Copy)]
@@ -81,7 +85,7 @@ fn read_term<'a>(variables: &[Vec<u8>], bytes: &'a [u8]) -> Option<(Term, &'a [u
     let (mut term, mut rest) = read_first_factor(variables, bytes)?;
 
     // Each factor takes a byte.
-    for _factor in 0..bytes.len() {
+    for taken in 0..bytes.len() {
         let Some(next) = strip(rest, b"*") else {
             return Some((term, rest));
         };
@@ -90,4 +94,29 @@ fn read_term<'a>(variables: &[Vec<u8>], bytes: &'a [u8]) -> Option<(Term, &'a [u
         rest = after;
     }
     Some((term, rest))
+}
+
+/// The terms at the front, with a `+` between each two.
+pub fn read_terms<'a>(
+    alloc: Global,
+    variables: &[Vec<u8>],
+    bytes: &'a [u8],
+) -> Result<(Vec<Term>, &'a [u8]), FormFault>
+    requires few { length variables.now ≤ 7 }
+    requires distinct { IsDistinct bytes_eq (words_of variables.now) }
+    ensures { Gives {Y = List (ℕ × List ℕ) × List ℕ} (λ t. (values_of t.0.items, t.1.now)) result
+        (map_item (map (term_of (words_of variables.now))) (terms_at (words_of variables.now) bytes.now)) }
+{
+    let (first, mut rest) = read_term(variables, bytes).ok_or(FormFault::Form)?;
+    let mut terms = Vec::new(alloc);
+    terms.push(first)?;
+    for count in 1..MAX_TERMS {
+        let Some(next) = strip(rest, b"+") else {
+            return Ok((terms, rest));
+        };
+        let (term, after) = read_term(variables, next).ok_or(FormFault::Form)?;
+        terms.push(term)?;
+        rest = after;
+    }
+    Ok((terms, rest))
 }
