@@ -4,6 +4,7 @@ pub mod Fronts
 pub mod Gathered
 pub mod Items
 pub mod KnownBytes
+pub mod ListLoop
 pub mod Lines
 pub mod Places
 pub mod TermLoop

@@ -1,9 +1,24 @@
 //! The form of a session of three lines: a ring, a sum of terms, and the question for its parts at 1.
-ghost use Rattle.std.specs.Prelude.{◌≡◌};
+ghost use Rattle.std.specs.Prelude.{ℕ, List, ◌≡◌, ◌≢◌, ◌↔◌, ◌≤◌, ◌<◌, length, map, codes, IfOk, IsErrOf};
+ghost use Rattle.std.specs.List.{IsDistinct};
+ghost use Rattle.std.specs.Str.{bytes_eq};
 ghost use Rattle.fj_session.specs.declared.form.FormFault.TheVariants.{Memory};
+ghost use Rattle.fj_session.specs.Form.{FormText, IsForm, spelling, term_of, is_among};
+ghost use Rattle.fj_session.specs.Reading.{ReadsAs, Gives, words_of, map_item, listed, after, word_at, prime_at, are_distinct, variables_at, ring_line_at, poly_line_at, ask_line_at, form_at};
+ghost use Rattle.fj_session.specs.Held.{values_of};
 
-use std::alloc::{AllocError, AllocFailed};
+use super::input::MAX_SESSION;
+use super::scan::{place_of, read_number, read_word, strip};
+use super::sum::read_terms;
+use super::term::Term;
+use std::alloc::{AllocError, AllocFailed, Global};
 use thiserror::Error;
+
+/// The primes of the coefficient fields.
+const PRIMES: [u64; 6] = [2, 3, 5, 7, 11, 13];
+
+/// The most variables of a ring.
+const MAX_VARIABLES: usize = 7;
 
 /// Why a session was not read as a form.
 #[derive(Clone, Copy, Debug, PartialEq, Eq, Error)]
@@ -28,4 +43,124 @@ impl<T: Drop> From<AllocFailed<T>> for FormFault {
     fn from(_refused: AllocFailed<T>) -> FormFault {
         FormFault::Memory
     }
+}
+
+/// The prime at the front, spelled without a zero before it.
+#[tactic(auto, unfolding(crate::specs::Reading::prime_at))]
+fn read_prime(bytes: &[u8]) -> Option<(u64, &[u8])>
+    ensures { ReadsAs {Y = ℕ × List ℕ} (λ p. (p.0, p.1.now)) result (prime_at bytes.now) }
+{
+    let (number, rest) = read_number(bytes)?;
+    if bytes.starts_with(b"0") || !PRIMES.contains(&number) {
+        return None;
+    }
+    Some((number, rest))
+}
+
+/// Whether a word is one of these.
+fn is_among(words: &[Vec<u8>], word: &[u8]) -> bool
+    ensures { result ≡ is_among (words_of words.now) word.now }
+{
+    place_of(words, word).is_some()
+}
+
+/// Whether no word is one of those after it.
+fn are_distinct(words: &[Vec<u8>]) -> bool
+    ensures { result ≡ are_distinct (words_of words.now) }
+{
+    let mut rest = words;
+    while let Some((first, others)) = rest.split_first() {
+        if is_among(others, first) {
+            return false;
+        }
+        rest = others;
+    }
+    true
+}
+
+/// The words at the front, with a comma and a blank between each two.
+fn read_words(alloc: Global, bytes: &[u8]) -> Result<(Vec<Vec<u8>>, &[u8]), FormFault>
+    ensures { Gives {Y = List (List ℕ) × List ℕ} (λ w. (words_of w.0.items, w.1.now)) result (listed word_at (codes ", ") 6 bytes.now) }
+{
+    let Some((first, mut rest)) = read_word(bytes) else {
+        return Err(FormFault::Form);
+    };
+    let mut words = Vec::new(alloc);
+    words.push(Vec::from_slice(alloc, first)?)?;
+    for count in 1..MAX_VARIABLES {
+        let Some(next) = strip(rest, b", ") else {
+            return Ok((words, rest));
+        };
+        let Some((word, after)) = read_word(next) else {
+            return Err(FormFault::Form);
+        };
+        words.push(Vec::from_slice(alloc, word)?)?;
+        rest = after;
+    }
+    Ok((words, rest))
+}
+
+/// The variables at the front.
+#[tactic(auto, unfolding(crate::specs::Reading::variables_at))]
+fn read_variables(alloc: Global, bytes: &[u8]) -> Result<(Vec<Vec<u8>>, &[u8]), FormFault>
+    ensures { Gives {Y = List (List ℕ) × List ℕ} (λ w. (words_of w.0.items, w.1.now)) result (variables_at bytes.now) }
+{
+    let (words, rest) = read_words(alloc, bytes)?;
+    if !are_distinct(&words) {
+        return Err(FormFault::Form);
+    }
+    Ok((words, rest))
+}
+
+/// What comes after a text that must stand here.
+fn expect_text<'a>(bytes: &'a [u8], text: &[u8]) -> Result<&'a [u8], FormFault>
+    ensures { Gives (λ rest. rest.now) result (after text.now bytes.now) }
+{
+    strip(bytes, text).ok_or(FormFault::Form)
+}
+
+/// The first line: the prime and the variables.
+#[tactic(auto, unfolding(crate::specs::Reading::ring_line_at))]
+fn read_ring_line(
+    alloc: Global,
+    bytes: &[u8],
+) -> Result<(u64, Vec<Vec<u8>>, &[u8]), FormFault>
+    ensures { Gives {Y = (ℕ × List (List ℕ)) × List ℕ} (λ r. ((r.0, words_of r.1.items), r.2.now)) result (ring_line_at bytes.now) }
+{
+    let rest = expect_text(bytes, b"ring ")?;
+    let (prime, rest) = read_prime(rest).ok_or(FormFault::Form)?;
+    let rest = expect_text(rest, b" ")?;
+    let (variables, rest) = read_variables(alloc, rest)?;
+    let rest = expect_text(rest, b"\n")?;
+    Ok((prime, variables, rest))
+}
+
+/// The second line: the name and the terms.
+#[tactic(auto, unfolding(crate::specs::Reading::poly_line_at))]
+fn read_poly_line<'a>(
+    alloc: Global,
+    variables: &[Vec<u8>],
+    bytes: &'a [u8],
+) -> Result<(&'a [u8], Vec<Term>, &'a [u8]), FormFault>
+    requires few { length variables.now ≤ 7 }
+    requires distinct { IsDistinct bytes_eq (words_of variables.now) }
+    ensures { Gives {Y = (List ℕ × List (ℕ × List ℕ)) × List ℕ} (λ p. ((p.0.now, values_of p.1.items), p.2.now)) result
+        (map_item (λ p. (p.0, map (term_of (words_of variables.now)) p.1)) (poly_line_at (words_of variables.now) bytes.now)) }
+{
+    let rest = expect_text(bytes, b"poly ")?;
+    let (name, rest) = read_word(rest).ok_or(FormFault::Form)?;
+    let rest = expect_text(rest, b" = ")?;
+    let (terms, rest) = read_terms(alloc, variables, rest)?;
+    let rest = expect_text(rest, b"\n")?;
+    Ok((name, terms, rest))
+}
+
+/// The third line: the question about the same name.
+#[tactic(auto, unfolding(crate::specs::Reading::ask_line_at))]
+fn read_ask_line<'a>(name: &[u8], bytes: &'a [u8]) -> Result<&'a [u8], FormFault>
+    ensures { Gives (λ rest. rest.now) result (ask_line_at name.now bytes.now) }
+{
+    let rest = expect_text(bytes, b"ask parts 1 ")?;
+    let rest = expect_text(rest, name)?;
+    expect_text(rest, b"\n")
 }

@@ -1,10 +1,11 @@
 //! Texts, words and numbers at the front of bytes.
-ghost use Rattle.std.specs.Prelude.{ℕ, List, ◌≡◌, ◌<◌, ◌≤◌, length, map, IfSome, decimal};
+ghost use Rattle.std.specs.Prelude.{ℕ, List, ◌≡◌, ◌<◌, ◌≤◌, length, IfSome, IfNone, OnSome, IsTrue, IsFalse};
 ghost use Rattle.std.specs.List.{prefix_len};
 ghost use Rattle.std.specs.Char.{is_ascii_digit};
+ghost use Rattle.std.specs.Str.{bytes_eq};
 ghost use Rattle.std.specs.Str.Parse.{digits_value};
-ghost use Rattle.fj_session.specs.Form.{IsNumber, is_word_start, is_word_byte};
-ghost use Rattle.fj_session.specs.Reading.{ReadsAs, map_item, after, word_at, number_at};
+ghost use Rattle.fj_session.specs.Form.{IsNumber, is_among, is_word_start, is_word_byte};
+ghost use Rattle.fj_session.specs.Reading.{ReadsAs, words_of, place_of, map_item, after, word_at, number_at};
 
 /// What comes after a text.
 #[tactic(auto, unfolding(crate::specs::Reading::after))]
@@ -79,4 +80,19 @@ pub fn read_number(bytes: &[u8]) -> Option<(u64, &[u8])>
     }
     let (digits, rest) = bytes.split_at(len);
     Some((number_of(digits), rest))
+}
+
+/// The place of a word among others.
+pub fn place_of(words: &[Vec<u8>], word: &[u8]) -> Option<usize>
+    ensures missing { IfNone result (IsFalse (is_among (words_of words.now) word.now)) }
+    ensures known { OnSome result (IsTrue (is_among (words_of words.now) word.now)) }
+    ensures place { IfSome result (λ i. i ≡ place_of (words_of words.now) word.now) }
+    ensures within { IfSome result (λ i. i < length words.now) }
+{
+    for (place, other) in words.iter().enumerate() {
+        if other.as_slice() == word {
+            return Some(place);
+        }
+    }
+    None
 }

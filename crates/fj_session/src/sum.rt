@@ -1,13 +1,13 @@
 //! Powers and terms of a sum.
-ghost use Rattle.std.specs.Prelude.{ℕ, List, ◌≡◌, ◌<◌, ◌≤◌, length, map, IfSome, IfNone, OnSome, IsTrue, IsFalse};
+ghost use Rattle.std.specs.Prelude.{ℕ, List, ◌≡◌, ◌<◌, ◌≤◌, length, map, IfSome};
 ghost use Rattle.std.specs.List.{IsDistinct};
 ghost use Rattle.std.specs.Str.{bytes_eq};
-ghost use Rattle.fj_session.specs.Form.{term_of, value_or_one, is_among};
+ghost use Rattle.fj_session.specs.Form.{term_of, value_or_one};
 ghost use Rattle.fj_session.specs.Held.{values_of};
-ghost use Rattle.fj_session.specs.Reading.{ReadsAs, Gives, words_of, map_item, exponent_at, place_of, power_value, power_at, small_factor_at, term_at, terms_at};
+ghost use Rattle.fj_session.specs.Reading.{ReadsAs, Gives, words_of, map_item, exponent_at, power_value, power_at, small_factor_at, term_at, terms_at};
 
 use super::form::FormFault;
-use super::scan::{read_number, read_word, strip};
+use super::scan::{place_of, read_number, read_word, strip};
 use super::term::Term;
 use std::alloc::Global;
 
@@ -19,21 +19,6 @@ const MAX_TERMS: usize = 1000;
 struct Power {
     place: usize,
     exponent: u64,
-}
-
-/// The place of a word among others.
-fn place_of(words: &[Vec<u8>], word: &[u8]) -> Option<usize>
-    ensures missing { IfNone result (IsFalse (is_among (words_of words.now) word.now)) }
-    ensures known { OnSome result (IsTrue (is_among (words_of words.now) word.now)) }
-    ensures place { IfSome result (λ i. i ≡ place_of (words_of words.now) word.now) }
-    ensures within { IfSome result (λ i. i < length words.now) }
-{
-    for (place, other) in words.iter().enumerate() {
-        if other.as_slice() == word {
-            return Some(place);
-        }
-    }
-    None
 }
 
 /// The exponent at the front, or 1.
@@ -107,14 +92,18 @@ pub fn read_terms<'a>(
     ensures { Gives {Y = List (ℕ × List ℕ) × List ℕ} (λ t. (values_of t.0.items, t.1.now)) result
         (map_item (map (term_of (words_of variables.now))) (terms_at (words_of variables.now) bytes.now)) }
 {
-    let (first, mut rest) = read_term(variables, bytes).ok_or(FormFault::Form)?;
+    let Some((first, mut rest)) = read_term(variables, bytes) else {
+        return Err(FormFault::Form);
+    };
     let mut terms = Vec::new(alloc);
     terms.push(first)?;
     for count in 1..MAX_TERMS {
         let Some(next) = strip(rest, b"+") else {
             return Ok((terms, rest));
         };
-        let (term, after) = read_term(variables, next).ok_or(FormFault::Form)?;
+        let Some((term, after)) = read_term(variables, next) else {
+            return Err(FormFault::Form);
+        };
         terms.push(term)?;
         rest = after;
     }
