@@ -1,6 +1,6 @@
 -- The exponents of a term, as its powers come.
-use Rattle.std.proofs.Common.{◌≡◌, ℕ, zero, suc, ◌+◌, ◌-◌, ◌<◌, ◌≤◌, Bool, true, false, not, ◌||◌, cond, List, [], ◌∷◌, ◌++◌, length, map, replicate, get_or, set, sum, refl, append_assoc, append-nil, sym, ap, subst, ◌∙◌, inl, inr, arith}
-use Rattle.std.specs.List.{AllByRecursion, IsDistinct, list_any, position_or_len, sum_by}
+use Rattle.std.proofs.Common.{◌≡◌, ℕ, suc, ◌+◌, ◌-◌, ◌<◌, ◌≤◌, true, false, cond, List, [], ◌∷◌, ◌++◌, length, map, replicate, get_or, set, sum, refl, append_assoc, append-nil, sym, ap, subst, ◌∙◌, inl, inr, arith}
+use Rattle.std.specs.List.{AllByRecursion, IsDistinct}
 use Rattle.std.specs.Str.{bytes_eq}
 use Rattle.std.proofs.lemmas.Bool.{cases_Bool}
 use Rattle.std.proofs.lemmas.Bool.Decides.{same_from_decides, Decides-like}
@@ -88,8 +88,8 @@ sum_more words front [] few distinct known so_far = subst (λ (s : List PowerTex
 sum_more words front (p ∷ rest) few distinct known so_far =
     let inside : place_of words p.variable < length (exponents_of words front) = omega (arith, place_inside words p.variable known.0.known, length-exponents words front few) in
     let one : sum (exponents_of words (front ++ p ∷ [])) ≡ degree (front ++ p ∷ []) =
-        ap sum (exponents-push words front p distinct known.0.known) ∙ sum-raised (exponents_of words front) (place_of words p.variable) (value_or_one p.exponent) inside
-        ∙ ap (λ n. n + value_or_one p.exponent) so_far ∙ sym (sum_by_push (λ q. value_or_one q.exponent) front p) in
+    ap sum (exponents-push words front p distinct known.0.known) ∙ sum-raised (exponents_of words front) (place_of words p.variable) (value_or_one p.exponent) inside
+    ∙ ap (λ n. n + value_or_one p.exponent) so_far ∙ sym (sum_by_push (λ q. value_or_one q.exponent) front p) in
     subst (λ (s : List PowerText). sum (exponents_of words s) ≡ degree s) (append_assoc front (p ∷ []) rest) (sum_more words (front ++ p ∷ []) rest few distinct known.1 one)
 
 -- the exponents of a term add up to its degree

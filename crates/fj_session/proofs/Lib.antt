@@ -1,6 +1,7 @@
 pub mod Digits
 pub mod Exponents
 pub mod Fronts
+pub mod Found
 pub mod Gathered
 pub mod Items
 pub mod KnownBytes

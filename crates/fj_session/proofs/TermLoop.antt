@@ -1,8 +1,8 @@
 -- Reading a term factor by factor, as the code does.
-use Rattle.std.proofs.Common.{◌≡◌, ℕ, ◌+◌, ◌-◌, ◌<◌, ◌≤◌, Bool, true, false, cond, leb, List, [], ◌∷◌, ◌++◌, length, map, replicate, get_or, set, sum, Option, Some, None, refl, sym, ap, subst, ◌∙◌, append_assoc, inl, inr, arith}
+use Rattle.std.proofs.Common.{◌≡◌, ℕ, ◌+◌, ◌-◌, ◌<◌, ◌≤◌, true, false, leb, List, [], ◌∷◌, ◌++◌, length, replicate, get_or, set, sum, Option, Some, None, refl, sym, ap, ◌∙◌, inl, inr, arith}
 use Rattle.std.specs.Prelude.{codes}
 use Rattle.std.specs.Global.{Vec}
-use Rattle.std.specs.List.{AllByRecursion, IsDistinct, sum_by}
+use Rattle.std.specs.List.{AllByRecursion, IsDistinct}
 use Rattle.std.specs.Str.{bytes_eq}
 use Rattle.std.specs.Str.Parse.{digits_value}
 use Rattle.std.proofs.lemmas.Bool.{cases_Bool, cases_lt, true≢false, le-leb, lt-leb, leb-false}
@@ -50,9 +50,9 @@ factor_power words bytes place exponent rest few distinct none e low =
     let exponent-is : value_or_one p.exponent ≡ exponent = ap (λ (q : ℕ × ℕ). q.1) power.2 in
     let small : leb (degree (p ∷ [])) 1000 ≡ true = le-leb _ _ (omega (arith, exponent-is, low)) in
     let value : exponents_of words (p ∷ []) ≡ set (replicate 8 0) place (get_or (replicate 8 0) place 0 + exponent) =
-        exponents-push words [] p distinct known.known
-        ∙ ap (λ (es : List ℕ). set es (place_of words p.variable) (get_or es (place_of words p.variable) 0 + value_or_one p.exponent)) (exponents-nil words (omega arith))
-        ∙ ap (λ (q : ℕ × ℕ). set (replicate 8 0) q.0 (get_or (replicate 8 0) q.0 0 + q.1)) power.2 in
+    exponents-push words [] p distinct known.known
+    ∙ ap (λ (es : List ℕ). set es (place_of words p.variable) (get_or es (place_of words p.variable) 0 + value_or_one p.exponent)) (exponents-nil words (omega arith))
+    ∙ ap (λ (q : ℕ × ℕ). set (replicate 8 0) q.0 (get_or (replicate 8 0) q.0 0 + q.1)) power.2 in
     let found = power.1 in
     rw (none, found, small) (ap (λ (es : List ℕ). Some ((1, es), rest)) value)
 

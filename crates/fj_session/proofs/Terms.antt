@@ -1,9 +1,9 @@
 -- Powers and terms: what is read is spelled so, and what is spelled so is read.
-use Rattle.std.proofs.Common.{◌≡◌, ℕ, zero, suc, ◌+◌, ◌<◌, ◌≤◌, Bool, true, false, not, ◌&&◌, ◌||◌, cond, eqb, leb, ltb, List, [], ◌∷◌, ◌++◌, length, get_or, map, Option, Some, None, refl, sym, ap, subst, ◌∙◌, append_assoc, append-nil, ◌⊎◌, inl, inr, arith}
+use Rattle.std.proofs.Common.{◌≡◌, ℕ, ◌<◌, ◌≤◌, true, false, ◌||◌, eqb, leb, List, [], ◌∷◌, ◌++◌, length, get_or, map, Option, Some, None, refl, sym, ap, subst, ◌∙◌, append_assoc, append-nil, ◌⊎◌, inl, inr, arith}
 use Rattle.std.specs.Prelude.{IfSome, codes}
 use Rattle.std.specs.Char.{is_ascii_digit}
 use Rattle.std.specs.Int.{is_in_range}
-use Rattle.std.specs.List.{AllByRecursion, flat_map, prefix_len, list_all}
+use Rattle.std.specs.List.{AllByRecursion}
 use Rattle.std.specs.Option.{option_map_or, option_to_list}
 use Rattle.std.proofs.lemmas.Bool.{cases_Bool, and_parts, or_cases, leb-true, le-leb, eqb-true}
 use Rattle.std.proofs.lemmas.List.{map-append, length-append, length-map}
@@ -11,7 +11,7 @@ use Rattle.std.proofs.lemmas.List.Concat.{flat_map-append}
 use Rattle.fj_session.specs.Form.{PowerText, TermText, IsPower, IsTerm, IsWord, IsNumber, is_among, is_word_start, is_word_byte, power_text, exponent_text, factors, term_text, joined, degree}
 use Rattle.fj_session.specs.Reading.{◌>>=◌, checked, after, word_at, number_at, exponent_at, power_at, first_factor_at, term_at, more, with_powers}
 use Rattle.fj_session.proofs.Fronts.{bind_some, checked_some, some_is, after_takes, after_again, after_none, word_takes, word_again, number_takes, number_again, EndsWord}
-use Rattle.fj_session.proofs.Items.{Items, AreItems, further, map_or_some, TakesFurther, more_takes, more_again}
+use Rattle.fj_session.proofs.Items.{Items, AreItems, further, map_or_some, more_takes, more_again}
 
 -- ---- powers
 
@@ -51,7 +51,7 @@ power_takes variables bytes x e =
     let exponent = exponent_takes b.0.1 c.0 c.1 in
     let made : PowerText = record { variable = b.0.0; exponent = c.0.0 } in
     subst (λ (y : PowerText × List ℕ). (bytes ≡ power_text y.0 ++ y.1) × IsPower variables y.0) (some_is (made, c.0.1) x c.2)
-      (word.0 ∙ ap (λ t. b.0.0 ++ t) exponent.0 ∙ sym (append_assoc b.0.0 (exponent_text c.0.0) c.0.1), record { word = word.1; known = among; exponent = exponent.1 })
+    (word.0 ∙ ap (λ t. b.0.0 ++ t) exponent.0 ∙ sym (append_assoc b.0.0 (exponent_text c.0.0) c.0.1), record { word = word.1; known = among; exponent = exponent.1 })
 
 power_again : (variables : List (List ℕ)) (p : PowerText) (rest : List ℕ) → IsPower variables p → EndsPower (get_or rest 0 0) → power_at variables (power_text p ++ rest) ≡ Some (p, rest)
 unfolding power_at
@@ -97,11 +97,11 @@ first_takes variables bytes x e =
           let a = bind_some (power_at variables bytes) (λ power. Some (record { coefficient = None; powers = power.0 ∷ [] }, power.1)) x none in
           let power = power_takes variables bytes a.0 a.1 in
           subst P (some_is (record { coefficient = None; powers = a.0.0 ∷ [] }, a.0.1) x a.2)
-            (power.0 ∙ ap (λ t. t ++ a.0.1) (sym (append-nil (power_text a.0.0))), record { coefficient = tt; powers = (power.1, tt); some = omega arith })
+          (power.0 ∙ ap (λ t. t ++ a.0.1) (sym (append-nil (power_text a.0.0))), record { coefficient = tt; powers = (power.1, tt); some = omega arith })
     ]
   where
     either : (o : Option (List ℕ × List ℕ)) (d : Option (TermText × List ℕ)) (y : TermText × List ℕ) → option_map_or (λ digits. Some (record { coefficient = Some digits.0; powers = [] }, digits.1)) o d ≡ Some y
-      → ((a : List ℕ × List ℕ) × (o ≡ Some a) × ((record { coefficient = Some a.0; powers = [] }, a.1) ≡ y)) ⊎ (d ≡ Some y)
+        → ((a : List ℕ × List ℕ) × (o ≡ Some a) × ((record { coefficient = Some a.0; powers = [] }, a.1) ≡ y)) ⊎ (d ≡ Some y)
     either None d y h = inr h
     either (Some a) d y h = inl (a, refl, some_is (record { coefficient = Some a.0; powers = [] }, a.1) y h)
 
@@ -113,8 +113,15 @@ all_append P (x ∷ xs) ys h k = (h.0, all_append P xs ys h.1 k)
 
 some_more : (t : TermText) (others : List PowerText) → 0 < length (factors t) → 0 < length (factors (with_powers t others))
 some_more t others some =
-    omega (arith, some, length-append (option_to_list t.coefficient) (map power_text (t.powers ++ others)), length-append (option_to_list t.coefficient) (map power_text t.powers),
-      length-map (t.powers ++ others) power_text, length-map t.powers power_text, length-append t.powers others)
+    omega (
+      arith,
+      some,
+      length-append (option_to_list t.coefficient) (map power_text (t.powers ++ others)),
+      length-append (option_to_list t.coefficient) (map power_text t.powers),
+      length-map (t.powers ++ others) power_text,
+      length-map t.powers power_text,
+      length-append t.powers others,
+    )
 
 pub term_takes : (variables : List (List ℕ)) (bytes : List ℕ) (x : TermText × List ℕ) → term_at variables bytes ≡ Some x → (bytes ≡ term_text x.0 ++ x.1) × IsTerm variables x.0
 unfolding term_at
@@ -125,10 +132,10 @@ term_takes variables bytes x e =
     let first = first_takes variables bytes a.0 a.1 in
     let others = more_takes (powers variables) (powers_are variables) (codes "*") (length bytes) a.0.1 b.0 b.1 in
     let whole : bytes ≡ term_text (with_powers a.0.0 b.0.0) ++ b.0.1 =
-        first.0 ∙ ap (λ t. term_text a.0.0 ++ t) others.parts ∙ sym (append_assoc (term_text a.0.0) (further (codes "*") (map power_text b.0.0)) b.0.1)
-        ∙ ap (λ t. t ++ b.0.1) (sym (term_text-more a.0.0 b.0.0 first.1.some)) in
+    first.0 ∙ ap (λ t. term_text a.0.0 ++ t) others.parts ∙ sym (append_assoc (term_text a.0.0) (further (codes "*") (map power_text b.0.0)) b.0.1)
+    ∙ ap (λ t. t ++ b.0.1) (sym (term_text-more a.0.0 b.0.0 first.1.some)) in
     subst (λ (y : TermText × List ℕ). (bytes ≡ term_text y.0 ++ y.1) × IsTerm variables y.0) small.1
-      (whole, record { coefficient = first.1.coefficient; powers = all_append (IsPower variables) a.0.0.powers b.0.0 first.1.powers others.good; some = some_more a.0.0 b.0.0 first.1.some; degree_small = leb-true _ _ small.0 })
+    (whole, record { coefficient = first.1.coefficient; powers = all_append (IsPower variables) a.0.0.powers b.0.0 first.1.powers others.good; some = some_more a.0.0 b.0.0 first.1.some; degree_small = leb-true _ _ small.0 })
 
 -- the end of a factor before a further one, or before what comes after the term
 ends_factor : (ps : List PowerText) (rest : List ℕ) → EndsPower (get_or rest 0 0) → EndsPower (get_or (further (codes "*") (map power_text ps) ++ rest) 0 0)
@@ -143,9 +150,9 @@ start_is_no_digit b start =
           let high : b ≤ 57 = leb-true _ _ bounds.1 in
           absurd (elim (or_cases (is_in_range 65 90 b || is_in_range 97 122 b) (eqb b 95) start) [
             | inl letter ↦ elim (or_cases (is_in_range 65 90 b) (is_in_range 97 122 b) letter) [
-                | inl upper ↦ omega (arith, high, leb-true _ _ (and_parts (leb 65 b) (leb b 90) upper).0)
-                | inr lower ↦ omega (arith, high, leb-true _ _ (and_parts (leb 97 b) (leb b 122) lower).0)
-              ]
+              | inl upper ↦ omega (arith, high, leb-true _ _ (and_parts (leb 65 b) (leb b 90) upper).0)
+              | inr lower ↦ omega (arith, high, leb-true _ _ (and_parts (leb 97 b) (leb b 122) lower).0)
+            ]
             | inr underscore ↦ omega (arith, high, eqb-true _ _ underscore)
           ])
       | inr other ↦ other
@@ -172,7 +179,7 @@ term_again_at variables (Some digits) ps rest good end =
     let tail = further (codes "*") (map power_text ps) ++ rest in
     let whole = digits ++ tail in
     let enough : length ps ≤ length whole =
-        omega (arith, length-further 42 [] (map power_text ps), length-map ps power_text, length-append digits tail, length-append (further (codes "*") (map power_text ps)) rest) in
+    omega (arith, length-further 42 [] (map power_text ps), length-map ps power_text, length-append digits tail, length-append (further (codes "*") (map power_text ps)) rest) in
     let small : leb (degree ps) 1000 ≡ true = le-leb _ _ good.degree_small in
     ap (term_at variables) (append_assoc digits (further (codes "*") (map power_text ps)) rest)
     ∙ rw (number_again digits tail good.coefficient (ends_factor ps rest end.0).0, more_again (powers variables) (powers_are variables) 42 [] (length whole) ps rest good.powers enough (refl, refl) end.0 end.1, small) refl
@@ -181,12 +188,16 @@ term_again_at variables None (p ∷ ps) rest good end =
     let tail = further (codes "*") (map power_text ps) ++ rest in
     let whole = power_text p ++ tail in
     let enough : length ps ≤ length whole =
-        omega (arith, length-further 42 [] (map power_text ps), length-map ps power_text, length-append (power_text p) tail, length-append (further (codes "*") (map power_text ps)) rest) in
+    omega (arith, length-further 42 [] (map power_text ps), length-map ps power_text, length-append (power_text p) tail, length-append (further (codes "*") (map power_text ps)) rest) in
     let small : leb (degree (p ∷ ps)) 1000 ≡ true = le-leb _ _ good.degree_small in
     let not_number : number_at whole ≡ None = ap number_at (append_assoc p.variable (exponent_text p.exponent) tail) ∙ no_number p.variable (exponent_text p.exponent ++ tail) good.powers.0.word in
     ap (term_at variables) (append_assoc (power_text p) (further (codes "*") (map power_text ps)) rest)
-    ∙ rw (not_number, (powers_are variables).again p tail good.powers.0 (ends_factor ps rest end.0),
-        more_again (powers variables) (powers_are variables) 42 [] (length whole) ps rest good.powers.1 enough (refl, refl) end.0 end.1, small) refl
+    ∙ rw (
+      not_number,
+      (powers_are variables).again p tail good.powers.0 (ends_factor ps rest end.0),
+      more_again (powers variables) (powers_are variables) 42 [] (length whole) ps rest good.powers.1 enough (refl, refl) end.0 end.1,
+      small,
+    ) refl
 
 abbrev pub terms : List (List ℕ) → Items
 terms variables = record { Item = TermText; read = term_at variables; text = term_text; Good = IsTerm variables; Ends = EndsTerm }

@@ -57,9 +57,9 @@ number_at bytes = checked (nat_lt 0 (prefix_len is_ascii_digit bytes) && nat_le 
 unfoldable pub more : {X : Type 0} → (List ℕ → Option (X × List ℕ)) → List ℕ → ℕ → List ℕ → Option (List X × List ℕ)
 more item between zero bytes = Some ([], bytes)
 more item between (suc n) bytes = option_map_or (λ rest. do
-    first ← item rest
-    others ← more item between n first.1
-    Some (first.0 ∷ others.0, others.1)) (after between bytes) (Some ([], bytes))
+  first ← item rest
+  others ← more item between n first.1
+  Some (first.0 ∷ others.0, others.1)) (after between bytes) (Some ([], bytes))
 
 -- an item, and up to n more
 abbrev pub listed : {X : Type 0} → (List ℕ → Option (X × List ℕ)) → List ℕ → ℕ → List ℕ → Option (List X × List ℕ)
@@ -99,8 +99,8 @@ ring_line_at bytes = do
 -- an exponent, where one follows
 unfoldable pub exponent_at : List ℕ → Option (Option (List ℕ) × List ℕ)
 exponent_at bytes = option_map_or (λ rest. do
-    digits ← number_at rest
-    Some (Some digits.0, digits.1)) (after (codes "^") bytes) (Some (None, bytes))
+  digits ← number_at rest
+  Some (Some digits.0, digits.1)) (after (codes "^") bytes) (Some (None, bytes))
 
 unfoldable pub power_at : List (List ℕ) → List ℕ → Option (PowerText × List ℕ)
 power_at variables bytes = do
@@ -120,8 +120,8 @@ power_value variables p = (place_of variables p.variable, value_or_one p.exponen
 -- a coefficient, or else a power
 unfoldable pub first_factor_at : List (List ℕ) → List ℕ → Option (TermText × List ℕ)
 first_factor_at variables bytes = option_map_or (λ digits. Some (record { coefficient = Some digits.0; powers = [] }, digits.1)) (number_at bytes) (do
-    power ← power_at variables bytes
-    Some (record { coefficient = None; powers = power.0 ∷ [] }, power.1))
+  power ← power_at variables bytes
+  Some (record { coefficient = None; powers = power.0 ∷ [] }, power.1))
 
 abbrev pub is_small : TermText → Bool
 is_small t = nat_le (degree t.powers) 1000

@@ -1,11 +1,15 @@
 //! The form of a session of three lines: a ring, a sum of terms, and the question for its parts at 1.
 ghost use Rattle.std.specs.Prelude.{ℕ, List, ◌≡◌, ◌≢◌, ◌↔◌, ◌≤◌, ◌<◌, length, map, codes, IfOk, IsErrOf};
 ghost use Rattle.std.specs.List.{IsDistinct};
+ghost use Rattle.std.specs.Option.{option_map};
 ghost use Rattle.std.specs.Str.{bytes_eq};
 ghost use Rattle.fj_session.specs.declared.form.FormFault.TheVariants.{Memory};
 ghost use Rattle.fj_session.specs.Form.{FormText, IsForm, spelling, term_of, is_among};
 ghost use Rattle.fj_session.specs.Reading.{ReadsAs, Gives, words_of, map_item, listed, after, word_at, prime_at, are_distinct, variables_at, ring_line_at, poly_line_at, ask_line_at, form_at};
-ghost use Rattle.fj_session.specs.Held.{values_of};
+ghost use Rattle.fj_session.specs.Held.{values_of, Holds, form_value, held_value};
+
+#[cfg(test)]
+mod tests;
 
 use super::input::MAX_SESSION;
 use super::scan::{place_of, read_number, read_word, strip};
@@ -19,6 +23,14 @@ const PRIMES: [u64; 6] = [2, 3, 5, 7, 11, 13];
 
 /// The most variables of a ring.
 const MAX_VARIABLES: usize = 7;
+
+/// What a session of this form holds: its names are those of the first variables of the terms.
+#[derive(Debug, Drop)]
+pub struct Form {
+    pub prime: u64,
+    pub variables: Vec<Vec<u8>>,
+    pub terms: Vec<Term>,
+}
 
 /// Why a session was not read as a form.
 #[derive(Clone, Copy, Debug, PartialEq, Eq, Error)]
@@ -121,10 +133,7 @@ fn expect_text<'a>(bytes: &'a [u8], text: &[u8]) -> Result<&'a [u8], FormFault>
 
 /// The first line: the prime and the variables.
 #[tactic(auto, unfolding(crate::specs::Reading::ring_line_at))]
-fn read_ring_line(
-    alloc: Global,
-    bytes: &[u8],
-) -> Result<(u64, Vec<Vec<u8>>, &[u8]), FormFault>
+fn read_ring_line(alloc: Global, bytes: &[u8]) -> Result<(u64, Vec<Vec<u8>>, &[u8]), FormFault>
     ensures { Gives {Y = (ℕ × List (List ℕ)) × List ℕ} (λ r. ((r.0, words_of r.1.items), r.2.now)) result (ring_line_at bytes.now) }
 {
     let rest = expect_text(bytes, b"ring ")?;
@@ -164,3 +173,39 @@ fn read_ask_line<'a>(name: &[u8], bytes: &'a [u8]) -> Result<&'a [u8], FormFault
     let rest = expect_text(rest, name)?;
     expect_text(rest, b"\n")
 }
+
+/// The lines of a form, all of the bytes.
+#[tactic(auto, unfolding(crate::specs::Reading::form_at))]
+fn read_lines(alloc: Global, bytes: &[u8]) -> Result<Form, FormFault>
+    ensures { Gives held_value result (option_map form_value (form_at bytes.now)) }
+{
+    if bytes.len() > MAX_SESSION {
+        return Err(FormFault::Form);
+    }
+    let (prime, variables, rest) = read_ring_line(alloc, bytes)?;
+    let (name, terms, rest) = read_poly_line(alloc, &variables, rest)?;
+    let rest = read_ask_line(name, rest)?;
+    if !rest.is_empty() || is_among(&variables, name) {
+        return Err(FormFault::Form);
+    }
+    Ok(Form {
+        prime,
+        variables,
+        terms,
+    })
+}
+
+/// Reads a session of this form, all of the bytes.
+pub fn read_form(alloc: Global, bytes: &[u8]) -> Result<Form, FormFault>
+    // What is read is spelled so, and is what the text means.
+    ensures found { IfOk result (λ form. (text : FormText) × IsForm text × (bytes.now ≡ spelling text) × Holds form text) }
+    // Form comes only where no form is spelled so.
+    ensures refused { IsErrOf result FormFault.Form → (text : FormText) → IsForm text → bytes.now ≢ spelling text }
+{
+    read_lines(alloc, bytes)
+}
+
+/// No text is the spelling of two forms.
+pub fn one_reading()
+    ensures { (first second : FormText) → IsForm first → IsForm second → spelling first ≡ spelling second → first ≡ second }
+{}

@@ -7,3 +7,5 @@ pub mod outside;
 mod scan;
 mod sum;
 mod term;
+
+pub use form::one_reading;

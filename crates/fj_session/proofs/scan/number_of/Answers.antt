@@ -1,5 +1,4 @@
-use Rattle.std.proofs.Common.{◌≡◌, ◌<◌, ◌≤◌, ◌^◌, ℕ, take, get_or, arith}
-use Rattle.std.specs.Str.Parse.{digits_value}
+use Rattle.std.proofs.Common.{arith}
 use Rattle.fj_session.proofs.Digits.{front_small, digit_low, number_more}
 use Rattle.fj_session.proofs.scan.number_of.Goals as goal
 

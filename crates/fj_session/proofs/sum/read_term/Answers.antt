@@ -20,12 +20,12 @@ returns-in_err-power c =
 pub returns-in_err-term-2 : goal.returns-in_err-term-2
 returns-in_err-term-2 c =
     reads_none _ _ _ c.from_residual-in_err-term-2.ensures (term_high (words_of c.args.variables.now) c.args.bytes.now c.loop-taken.taken _ _ _ _ _ _ (few_words c.args.variables.now c.requires.few) c.requires.distinct c.loop-taken-test.true
-        c.in-Some.ensures c.in_ok-power.ensures.reads (c.in_err-term-2.ensures.high.0 refl) c.loop-taken.invariant)
+    c.in-Some.ensures c.in_ok-power.ensures.reads (c.in_err-term-2.ensures.high.0 refl) c.loop-taken.invariant)
 
 pub loop-taken-preserved : goal.loop-taken-preserved
 loop-taken-preserved c =
     term_as _ _ _ _ _ _ _ _ (term_more (words_of c.args.variables.now) c.args.bytes.now c.loop-taken.taken _ _ _ _ _ _ c.requires.distinct c.loop-taken-test.true c.in-Some.ensures c.in_ok-power.ensures.reads c.loop-taken.invariant)
-        c.in_ok-term-2.ensures.coefficient c.in_ok-term-2.ensures.exponents
+    c.in_ok-term-2.ensures.coefficient c.in_ok-term-2.ensures.exponents
 
 pub returns : goal.returns
 returns c = term_ends (words_of c.args.variables.now) c.args.bytes.now c.loop-taken.taken _ _ (few_words c.args.variables.now c.requires.few) c.requires.distinct c.loop-taken-test.false c.loop-taken.term.degree_small c.loop-taken.invariant

@@ -1,8 +1,7 @@
-use Rattle.std.proofs.Common.{ℕ, List, map, refl, codes}
+use Rattle.std.proofs.Common.{refl, codes}
 use Rattle.fj_session.specs.declared.term.Term.{Term}
 use Rattle.fj_session.specs.Form.{term_of}
-use Rattle.fj_session.specs.Held.{values_of}
-use Rattle.fj_session.specs.Reading.{words_of, map_item, term_at, terms_at}
+use Rattle.fj_session.specs.Reading.{words_of, term_at, terms_at}
 use Rattle.fj_session.proofs.ListLoop.{list_begins, list_none, list_more, list_bad, list_stops, list_ends, list_as, pushed, first_pushed}
 use Rattle.fj_session.proofs.sum.read_terms.Goals as goal
 

@@ -1,4 +1,4 @@
-use Rattle.std.proofs.Common.{ℕ, List, map}
+use Rattle.std.proofs.Common.{map}
 use Rattle.std.specs.Prelude.{codes}
 use Rattle.fj_session.specs.Form.{term_of}
 use Rattle.fj_session.specs.Held.{values_of}
