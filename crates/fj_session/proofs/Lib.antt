@@ -10,3 +10,4 @@ pub mod Lines
 pub mod Places
 pub mod TermLoop
 pub mod Terms
+pub mod Texts

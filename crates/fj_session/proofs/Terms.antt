@@ -70,7 +70,7 @@ powers_are variables = record { takes = power_takes variables; again = power_aga
 -- ---- the first factor of a term
 
 -- a longer list of factors
-joined-append : (between : List ℕ) (xs ys : List (List ℕ)) → 0 < length xs → joined between (xs ++ ys) ≡ joined between xs ++ further between ys
+pub joined-append : (between : List ℕ) (xs ys : List (List ℕ)) → 0 < length xs → joined between (xs ++ ys) ≡ joined between xs ++ further between ys
 joined-append between [] ys some = absurd (omega arith)
 joined-append between (x ∷ xs) ys some = ap (λ t. x ++ t) (flat_map-append (λ p. between ++ p) xs ys) ∙ sym (append_assoc x (further between xs) (further between ys))
 

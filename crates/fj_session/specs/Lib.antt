@@ -3,3 +3,4 @@ pub mod Held
 pub mod Memory
 pub mod Outside
 pub mod Reading
+pub mod Text

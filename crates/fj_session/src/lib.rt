@@ -7,5 +7,6 @@ pub mod outside;
 mod scan;
 mod sum;
 mod term;
+mod text;
 
 pub use form::one_reading;

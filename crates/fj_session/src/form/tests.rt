@@ -35,6 +35,9 @@ fn refuses_what_is_nearly_a_session(rt: HostRuntime) {
         b"ring 2 x\npoly f = x\nask parts 1 f",
     ];
     for row in rows {
-        assert!(rt; matches!(read_form(rt.alloc(), row), Err(FormFault::Form)), "{row:?}");
+        assert!(rt;
+            matches!(read_form(rt.alloc(), row), Err(FormFault::Form)),
+            "{row:?}"
+        );
     }
 }
