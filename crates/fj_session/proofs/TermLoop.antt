@@ -56,21 +56,6 @@ factor_power words bytes place exponent rest few distinct none e low =
     let found = power.1 in
     rw (none, found, small) (ap (λ (es : List ℕ). Some ((1, es), rest)) value)
 
-pub factor_high : (words : List (List ℕ)) (bytes : List ℕ) (place exponent : ℕ) (rest : List ℕ) → number_at bytes ≡ None → map_item (power_value words) (power_at words bytes) ≡ Some ((place, exponent), rest) → 1000 < exponent
-    → map_item (term_of words) (small_factor_at words bytes) ≡ None
-unfolding small_factor_at first_factor_at
-factor_high words bytes place exponent rest none e high =
-    let power = map_item_some (power_value words) (power_at words bytes) (place, exponent) rest e in
-    let p = power.0 in
-    let exponent-is : value_or_one p.exponent ≡ exponent = ap (λ (q : ℕ × ℕ). q.1) power.2 in
-    let large : leb (degree (p ∷ [])) 1000 ≡ false = lt-leb _ _ (omega (arith, exponent-is, high)) in
-    let found = power.1 in
-    rw (none, found, large) refl
-
-pub factor_none : (words : List (List ℕ)) (bytes : List ℕ) → number_at bytes ≡ None → power_at words bytes ≡ None → small_factor_at words bytes ≡ None
-unfolding small_factor_at first_factor_at
-factor_none words bytes none nor = rw (none, nor) refl
-
 -- ---- the loop
 
 -- what a term so far and the further powers make

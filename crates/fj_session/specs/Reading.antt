@@ -1,4 +1,5 @@
--- Reading a form from left to right. A reader answers what stands at the front of the bytes, and the bytes after it.
+-- Reading a form from left to right, as the code does. A reader answers what stands at the front of the bytes, and the
+-- bytes after it. What a form is stands in `Form`; that this reads exactly the forms is proved, and part of `read_form`.
 use Rattle.std.specs.Prelude.{◌≡◌, ℕ, zero, suc, ◌==◌, Bool, true, ◌&&◌, not, nat_lt, nat_le, if◌then◌else◌, List, [], ◌∷◌, ◌++◌, length, map, take, drop, slice_index, Result, Ok, Err, None, Some, codes}
 use Rattle.std.specs.declared.option.Option.{Option}
 use Rattle.std.specs.Char.{is_ascii_digit}

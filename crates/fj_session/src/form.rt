@@ -1,10 +1,10 @@
 //! The form of a session of three lines: a ring, a sum of terms, and the question for its parts at 1.
-ghost use Rattle.std.specs.Prelude.{ℕ, List, ◌≡◌, ◌≢◌, ◌↔◌, ◌≤◌, ◌<◌, length, map, codes, IfOk, IsErrOf};
+ghost use Rattle.std.specs.Prelude.{ℕ, List, ◌≡◌, ◌≢◌, ◌↔◌, ◌≤◌, ◌<◌, length, map, codes, IsTrue, IfOk, IsErrOf};
 ghost use Rattle.std.specs.List.{IsDistinct};
 ghost use Rattle.std.specs.Option.{option_map};
 ghost use Rattle.std.specs.Str.{bytes_eq};
 ghost use Rattle.fj_session.specs.declared.form.FormFault.TheVariants.{Memory};
-ghost use Rattle.fj_session.specs.Form.{FormText, IsForm, spelling, term_of, is_among};
+ghost use Rattle.fj_session.specs.Form.{FormText, IsForm, is_prime, spelling, term_of, is_among};
 ghost use Rattle.fj_session.specs.Reading.{ReadsAs, Gives, words_of, map_item, listed, after, word_at, prime_at, are_distinct, variables_at, ring_line_at, poly_line_at, ask_line_at, form_at};
 ghost use Rattle.fj_session.specs.Held.{values_of, Holds, form_value, held_value};
 
@@ -199,6 +199,9 @@ fn read_lines(alloc: Global, bytes: &[u8]) -> Result<Form, FormFault>
 pub fn read_form(alloc: Global, bytes: &[u8]) -> Result<Form, FormFault>
     // What is read is spelled so, and is what the text means.
     ensures found { IfOk result (λ form. (text : FormText) × IsForm text × (bytes.now ≡ spelling text) × Holds form text) }
+    ensures prime { IfOk result (λ form. IsTrue (is_prime form.prime)) }
+    ensures few_variables { IfOk result (λ form. length form.variables.items ≤ 7) }
+
     // Form comes only where no form is spelled so.
     ensures refused { IsErrOf result FormFault.Form → (text : FormText) → IsForm text → bytes.now ≢ spelling text }
 {
