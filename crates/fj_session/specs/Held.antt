@@ -5,9 +5,12 @@ use Rattle.fj_session.specs.declared.term.Term.{Term}
 use Rattle.fj_session.specs.Form.{FormText, terms_of}
 use Rattle.fj_session.specs.Reading.{words_of}
 
--- each term as its coefficient and its exponents
+-- a term as its coefficient and its exponents
+abbrev pub value_of : Term → ℕ × List ℕ
+value_of t = (t.coefficient, t.exponents)
+
 abbrev pub values_of : List Term → List (ℕ × List ℕ)
-values_of terms = map (λ t. (t.coefficient, t.exponents)) terms
+values_of terms = map value_of terms
 
 -- a form holds what a text means
 pub record Holds (form : Form) (text : FormText) : Type 0 where

@@ -7,6 +7,7 @@ use Rattle.std.specs.List.{prefix_len, position_or_len}
 use Rattle.std.specs.Option.{option_map, option_map_or}
 use Rattle.std.specs.Str.{bytes_eq}
 use Rattle.std.specs.Str.Parse.{digits_value}
+use Rattle.std.specs.Borrow.{Bor}
 use Rattle.std.specs.Global.{Vec}
 use Rattle.fj_session.specs.declared.form.FormFault.{FormFault}
 use Rattle.fj_session.specs.declared.form.FormFault.TheVariants as faults
@@ -31,6 +32,13 @@ abbrev pub Gives : {X Y : Type 0} → (X → Y) → Result X FormFault → Optio
 Gives view (Ok x) read = read ≡ Some (view x)
 Gives view (Err faults.Form) read = read ≡ None
 Gives view (Err faults.Memory) read = Unit {0}
+
+-- The same of an item and the bytes after it.
+abbrev pub ReadsItem : {X Y : Type 0} → (X → Y) → Option (X × Bor (List ℕ)) → Option (Y × List ℕ) → Type 0
+ReadsItem view result read = ReadsAs (λ x. (view x.0, x.1.now)) result read
+
+abbrev pub GivesItem : {X Y : Type 0} → (X → Y) → Result (X × Bor (List ℕ)) FormFault → Option (Y × List ℕ) → Type 0
+GivesItem view result read = Gives (λ x. (view x.0, x.1.now)) result read
 
 -- the bytes of each word
 abbrev pub words_of : List (Vec ℕ) → List (List ℕ)

@@ -5,7 +5,7 @@ ghost use Rattle.std.specs.Option.{option_map};
 ghost use Rattle.std.specs.Str.{bytes_eq};
 ghost use Rattle.fj_session.specs.declared.form.FormFault.TheVariants.{Memory};
 ghost use Rattle.fj_session.specs.Form.{FormText, IsForm, is_prime, spelling, term_of, is_among};
-ghost use Rattle.fj_session.specs.Reading.{ReadsAs, Gives, words_of, map_item, listed, after, word_at, prime_at, are_distinct, variables_at, ring_line_at, poly_line_at, ask_line_at, form_at};
+ghost use Rattle.fj_session.specs.Reading.{Gives, GivesItem, ReadsItem, words_of, map_item, listed, after, word_at, prime_at, are_distinct, variables_at, ring_line_at, poly_line_at, ask_line_at, form_at};
 ghost use Rattle.fj_session.specs.Held.{values_of, Holds, form_value, held_value};
 
 #[cfg(test)]
@@ -60,7 +60,7 @@ impl<T: Drop> From<AllocFailed<T>> for FormFault {
 /// The prime at the front, spelled without a zero before it.
 #[tactic(auto, unfolding(crate::specs::Reading::prime_at))]
 fn read_prime(bytes: &[u8]) -> Option<(u64, &[u8])>
-    ensures { ReadsAs {Y = ℕ × List ℕ} (λ p. (p.0, p.1.now)) result (prime_at bytes.now) }
+    ensures { ReadsItem (λ prime. prime) result (prime_at bytes.now) }
 {
     let (number, rest) = read_number(bytes)?;
     if bytes.starts_with(b"0") || !PRIMES.contains(&number) {
@@ -92,14 +92,15 @@ fn are_distinct(words: &[Vec<u8>]) -> bool
 
 /// The words at the front, with a comma and a blank between each two.
 fn read_words(alloc: Global, bytes: &[u8]) -> Result<(Vec<Vec<u8>>, &[u8]), FormFault>
-    ensures { Gives {Y = List (List ℕ) × List ℕ} (λ w. (words_of w.0.items, w.1.now)) result (listed word_at (codes ", ") 6 bytes.now) }
+    ensures { GivesItem (λ words. words_of words.items) result
+        (listed word_at (codes ", ") 6 bytes.now) }
 {
     let Some((first, mut rest)) = read_word(bytes) else {
         return Err(FormFault::Form);
     };
     let mut words = Vec::new(alloc);
     words.push(Vec::from_slice(alloc, first)?)?;
-    for count in 1..MAX_VARIABLES {
+    for _count in 1..MAX_VARIABLES {
         let Some(next) = strip(rest, b", ") else {
             return Ok((words, rest));
         };
@@ -115,7 +116,7 @@ fn read_words(alloc: Global, bytes: &[u8]) -> Result<(Vec<Vec<u8>>, &[u8]), Form
 /// The variables at the front.
 #[tactic(auto, unfolding(crate::specs::Reading::variables_at))]
 fn read_variables(alloc: Global, bytes: &[u8]) -> Result<(Vec<Vec<u8>>, &[u8]), FormFault>
-    ensures { Gives {Y = List (List ℕ) × List ℕ} (λ w. (words_of w.0.items, w.1.now)) result (variables_at bytes.now) }
+    ensures { GivesItem (λ words. words_of words.items) result (variables_at bytes.now) }
 {
     let (words, rest) = read_words(alloc, bytes)?;
     if !are_distinct(&words) {
@@ -134,7 +135,8 @@ fn expect_text<'a>(bytes: &'a [u8], text: &[u8]) -> Result<&'a [u8], FormFault>
 /// The first line: the prime and the variables.
 #[tactic(auto, unfolding(crate::specs::Reading::ring_line_at))]
 fn read_ring_line(alloc: Global, bytes: &[u8]) -> Result<(u64, Vec<Vec<u8>>, &[u8]), FormFault>
-    ensures { Gives {Y = (ℕ × List (List ℕ)) × List ℕ} (λ r. ((r.0, words_of r.1.items), r.2.now)) result (ring_line_at bytes.now) }
+    ensures { Gives {Y = (ℕ × List (List ℕ)) × List ℕ}
+        (λ r. ((r.0, words_of r.1.items), r.2.now)) result (ring_line_at bytes.now) }
 {
     let rest = expect_text(bytes, b"ring ")?;
     let (prime, rest) = read_prime(rest).ok_or(FormFault::Form)?;
@@ -153,8 +155,10 @@ fn read_poly_line<'a>(
 ) -> Result<(&'a [u8], Vec<Term>, &'a [u8]), FormFault>
     requires few { length variables.now ≤ 7 }
     requires distinct { IsDistinct bytes_eq (words_of variables.now) }
-    ensures { Gives {Y = (List ℕ × List (ℕ × List ℕ)) × List ℕ} (λ p. ((p.0.now, values_of p.1.items), p.2.now)) result
-        (map_item (λ p. (p.0, map (term_of (words_of variables.now)) p.1)) (poly_line_at (words_of variables.now) bytes.now)) }
+    ensures { let words = words_of variables.now in
+        Gives {Y = (List ℕ × List (ℕ × List ℕ)) × List ℕ}
+        (λ p. ((p.0.now, values_of p.1.items), p.2.now)) result
+        (map_item (λ p. (p.0, map (term_of words) p.1)) (poly_line_at words bytes.now)) }
 {
     let rest = expect_text(bytes, b"poly ")?;
     let (name, rest) = read_word(rest).ok_or(FormFault::Form)?;
@@ -198,17 +202,20 @@ fn read_lines(alloc: Global, bytes: &[u8]) -> Result<Form, FormFault>
 /// Reads a session of this form, all of the bytes.
 pub fn read_form(alloc: Global, bytes: &[u8]) -> Result<Form, FormFault>
     // What is read is spelled so, and is what the text means.
-    ensures found { IfOk result (λ form. (text : FormText) × IsForm text × (bytes.now ≡ spelling text) × Holds form text) }
+    ensures found { IfOk result (λ form. (text : FormText) × IsForm text
+        × (bytes.now ≡ spelling text) × Holds form text) }
     ensures prime { IfOk result (λ form. IsTrue (is_prime form.prime)) }
     ensures few_variables { IfOk result (λ form. length form.variables.items ≤ 7) }
 
     // Form comes only where no form is spelled so.
-    ensures refused { IsErrOf result FormFault.Form → (text : FormText) → IsForm text → bytes.now ≢ spelling text }
+    ensures refused { IsErrOf result FormFault.Form →
+        (text : FormText) → IsForm text → bytes.now ≢ spelling text }
 {
     read_lines(alloc, bytes)
 }
 
 /// No text is the spelling of two forms.
 pub fn one_reading()
-    ensures { (first second : FormText) → IsForm first → IsForm second → spelling first ≡ spelling second → first ≡ second }
+    ensures { (first second : FormText) → IsForm first → IsForm second
+        → spelling first ≡ spelling second → first ≡ second }
 {}

@@ -1,11 +1,11 @@
 //! Texts, words and numbers at the front of bytes.
-ghost use Rattle.std.specs.Prelude.{ℕ, List, ◌≡◌, ◌<◌, ◌≤◌, length, IfSome, IfNone, OnSome, IsTrue, IsFalse};
+ghost use Rattle.std.specs.Prelude.{◌≡◌, ◌<◌, ◌≤◌, length, IfSome, IfNone, OnSome, IsTrue, IsFalse};
 ghost use Rattle.std.specs.List.{prefix_len};
 ghost use Rattle.std.specs.Char.{is_ascii_digit};
 ghost use Rattle.std.specs.Str.{bytes_eq};
 ghost use Rattle.std.specs.Str.Parse.{digits_value};
 ghost use Rattle.fj_session.specs.Form.{IsNumber, is_among, is_word_start, is_word_byte};
-ghost use Rattle.fj_session.specs.Reading.{ReadsAs, words_of, place_of, map_item, after, word_at, number_at};
+ghost use Rattle.fj_session.specs.Reading.{ReadsAs, ReadsItem, words_of, place_of, map_item, after, word_at, number_at};
 
 /// What comes after a text.
 #[tactic(auto, unfolding(crate::specs::Reading::after))]
@@ -40,7 +40,7 @@ fn word_len(bytes: &[u8]) -> usize
 /// The word at the front, and the bytes after it.
 #[tactic(auto, unfolding(crate::specs::Reading::word_at))]
 pub fn read_word(bytes: &[u8]) -> Option<(&[u8], &[u8])>
-    ensures { ReadsAs (λ w. (w.0.now, w.1.now)) result (word_at bytes.now) }
+    ensures { ReadsItem (λ word. word.now) result (word_at bytes.now) }
 {
     let first = *bytes.first()?;
     if !is_word_start(first) {
@@ -72,7 +72,7 @@ fn number_of(digits: &[u8]) -> u64
 /// The number at the front, of one to four digits, and the bytes after it.
 #[tactic(auto, unfolding(crate::specs::Reading::number_at))]
 pub fn read_number(bytes: &[u8]) -> Option<(u64, &[u8])>
-    ensures { ReadsAs {Y = ℕ × List ℕ} (λ n. (n.0, n.1.now)) result (map_item (digits_value 10) (number_at bytes.now)) }
+    ensures { ReadsItem (λ n. n) result (map_item (digits_value 10) (number_at bytes.now)) }
 {
     let len = digit_len(bytes);
     if len == 0 || len > 4 {

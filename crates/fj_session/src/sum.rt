@@ -1,10 +1,10 @@
 //! Powers and terms of a sum.
-ghost use Rattle.std.specs.Prelude.{ℕ, List, ◌≡◌, ◌<◌, ◌≤◌, length, map, IfSome};
+ghost use Rattle.std.specs.Prelude.{◌≡◌, ◌<◌, ◌≤◌, length, map, IfSome};
 ghost use Rattle.std.specs.List.{IsDistinct};
 ghost use Rattle.std.specs.Str.{bytes_eq};
 ghost use Rattle.fj_session.specs.Form.{term_of, value_or_one};
-ghost use Rattle.fj_session.specs.Held.{values_of};
-ghost use Rattle.fj_session.specs.Reading.{ReadsAs, Gives, words_of, map_item, exponent_at, power_value, power_at, small_factor_at, term_at, terms_at};
+ghost use Rattle.fj_session.specs.Held.{value_of, values_of};
+ghost use Rattle.fj_session.specs.Reading.{ReadsItem, GivesItem, words_of, map_item, exponent_at, power_value, power_at, small_factor_at, term_at, terms_at};
 
 use super::form::FormFault;
 use super::scan::{place_of, read_number, read_word, strip};
@@ -24,7 +24,7 @@ struct Power {
 /// The exponent at the front, or 1.
 #[tactic(auto, unfolding(crate::specs::Reading::exponent_at))]
 fn read_exponent(bytes: &[u8]) -> Option<(u64, &[u8])>
-    ensures { ReadsAs {Y = ℕ × List ℕ} (λ n. (n.0, n.1.now)) result (map_item value_or_one (exponent_at bytes.now)) }
+    ensures { ReadsItem (λ n. n) result (map_item value_or_one (exponent_at bytes.now)) }
 {
     match strip(bytes, b"^") {
         Some(digits) => read_number(digits),
@@ -35,7 +35,9 @@ fn read_exponent(bytes: &[u8]) -> Option<(u64, &[u8])>
 /// The power at the front.
 #[tactic(auto, unfolding(crate::specs::Reading::power_at))]
 fn read_power<'a>(variables: &[Vec<u8>], bytes: &'a [u8]) -> Option<(Power, &'a [u8])>
-    ensures reads { ReadsAs {Y = (ℕ × ℕ) × List ℕ} (λ p. ((p.0.place, p.0.exponent), p.1.now)) result (map_item (power_value (words_of variables.now)) (power_at (words_of variables.now) bytes.now)) }
+    ensures reads { let words = words_of variables.now in
+        ReadsItem (λ p. (p.place, p.exponent)) result
+        (map_item (power_value words) (power_at words bytes.now)) }
     ensures within { IfSome result (λ p. p.0.place < length variables.now) }
 {
     let (word, rest) = read_word(bytes)?;
@@ -49,8 +51,8 @@ fn read_power<'a>(variables: &[Vec<u8>], bytes: &'a [u8]) -> Option<(Power, &'a 
 fn read_first_factor<'a>(variables: &[Vec<u8>], bytes: &'a [u8]) -> Option<(Term, &'a [u8])>
     requires few { length variables.now ≤ 7 }
     requires distinct { IsDistinct bytes_eq (words_of variables.now) }
-    ensures { ReadsAs {Y = (ℕ × List ℕ) × List ℕ} (λ t. ((t.0.coefficient, t.0.exponents), t.1.now)) result
-        (map_item (term_of (words_of variables.now)) (small_factor_at (words_of variables.now) bytes.now)) }
+    ensures { let words = words_of variables.now in
+        ReadsItem value_of result (map_item (term_of words) (small_factor_at words bytes.now)) }
 {
     if let Some((coefficient, rest)) = read_number(bytes) {
         return Some((Term::constant(coefficient), rest));
@@ -64,13 +66,13 @@ fn read_first_factor<'a>(variables: &[Vec<u8>], bytes: &'a [u8]) -> Option<(Term
 fn read_term<'a>(variables: &[Vec<u8>], bytes: &'a [u8]) -> Option<(Term, &'a [u8])>
     requires few { length variables.now ≤ 7 }
     requires distinct { IsDistinct bytes_eq (words_of variables.now) }
-    ensures { ReadsAs {Y = (ℕ × List ℕ) × List ℕ} (λ t. ((t.0.coefficient, t.0.exponents), t.1.now)) result
-        (map_item (term_of (words_of variables.now)) (term_at (words_of variables.now) bytes.now)) }
+    ensures { let words = words_of variables.now in
+        ReadsItem value_of result (map_item (term_of words) (term_at words bytes.now)) }
 {
     let (mut term, mut rest) = read_first_factor(variables, bytes)?;
 
     // Each factor takes a byte.
-    for taken in 0..bytes.len() {
+    for _taken in 0..bytes.len() {
         let Some(next) = strip(rest, b"*") else {
             return Some((term, rest));
         };
@@ -89,15 +91,16 @@ pub fn read_terms<'a>(
 ) -> Result<(Vec<Term>, &'a [u8]), FormFault>
     requires few { length variables.now ≤ 7 }
     requires distinct { IsDistinct bytes_eq (words_of variables.now) }
-    ensures { Gives {Y = List (ℕ × List ℕ) × List ℕ} (λ t. (values_of t.0.items, t.1.now)) result
-        (map_item (map (term_of (words_of variables.now))) (terms_at (words_of variables.now) bytes.now)) }
+    ensures { let words = words_of variables.now in
+        GivesItem (λ terms. values_of terms.items) result
+        (map_item (map (term_of words)) (terms_at words bytes.now)) }
 {
     let Some((first, mut rest)) = read_term(variables, bytes) else {
         return Err(FormFault::Form);
     };
     let mut terms = Vec::new(alloc);
     terms.push(first)?;
-    for count in 1..MAX_TERMS {
+    for _count in 1..MAX_TERMS {
         let Some(next) = strip(rest, b"+") else {
             return Ok((terms, rest));
         };

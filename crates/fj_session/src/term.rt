@@ -29,7 +29,8 @@ impl Term {
         requires { place < 8 }
         ensures high { IsNone result ↔ (1000 < sum self.exponents + exponent) }
         ensures coefficient { IfSome result (λ t. t.coefficient ≡ self.coefficient) }
-        ensures exponents { IfSome result (λ t. t.exponents ≡ slice_set self.exponents place (slice_index self.exponents place + exponent)) }
+        ensures exponents { IfSome result (λ t. t.exponents
+            ≡ slice_set self.exponents place (slice_index self.exponents place + exponent)) }
     {
         let degree: u64 = self.exponents.iter().sum();
         if exponent > MAX_DEGREE - degree {

@@ -57,7 +57,8 @@ pub fn push_term(
     exponents: &[u64],
 ) -> Result<(), AllocError>
     requires { length names.now ≤ length exponents.now }
-    ensures { OnOk result (out.new.items ≡ out.old.items ++ term_bytes (words_of names.now) rank exponents.now) }
+    ensures { OnOk result
+        (out.new.items ≡ out.old.items ++ term_bytes (words_of names.now) rank exponents.now) }
 {
     let mut is_bare = true;
     if rank != 1 {

@@ -20,7 +20,7 @@ loop-count-init c =
 pub loop-count-preserved : goal.loop-count-preserved
 loop-count-preserved c =
     list_as _ _ _ _ _ _ _ _ _
-    (list_more (λ (w : List ℕ). w) word_at (codes ", ") 7 c.loop-count.count _ _ _ _ _ _ c.loop-count-test.true c.in-Some-strip.ensures (map_item_id (word_at c.in-Some-strip.next.now) ∙ c.in-Some-read_word.ensures) c.loop-count.invariant)
+    (list_more (λ (w : List ℕ). w) word_at (codes ", ") 7 c.loop-count._count _ _ _ _ _ _ c.loop-count-test.true c.in-Some-strip.ensures (map_item_id (word_at c.in-Some-strip.next.now) ∙ c.in-Some-read_word.ensures) c.loop-count.invariant)
     (pushed (λ (w : Vec ℕ). w.items) _ _ c.in_ok-from_slice-2.field-0 _ c.in_ok-push-2.ensures.items c.in_ok-from_slice-2.ensures.items)
 
 pub returns : goal.returns

@@ -3,4 +3,4 @@ use Rattle.fj_session.proofs.TermLoop.{TermSoFar}
 use Rattle.fj_session.proofs.sum.read_term.Given as goal
 
 abbrev pub invariant-loop-taken : goal.invariant-loop-taken
-invariant-loop-taken l = TermSoFar (words_of l.variables) l.bytes l.taken (l.term.coefficient, l.term.exponents) l.rest
+invariant-loop-taken l = TermSoFar (words_of l.variables) l.bytes l._taken (l.term.coefficient, l.term.exponents) l.rest

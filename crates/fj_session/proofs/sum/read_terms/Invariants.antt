@@ -9,4 +9,4 @@ use Rattle.fj_session.proofs.sum.read_terms.Given as goal
 abbrev pub invariant-loop-count : goal.invariant-loop-count
 invariant-loop-count l =
     let words = words_of l.variables in
-    ListSoFar (term_of words) (term_at words) (codes "+") 1000 l.count (map_item (map (term_of words)) (terms_at words l.bytes)) (values_of l.terms.items) l.rest
+    ListSoFar (term_of words) (term_at words) (codes "+") 1000 l._count (map_item (map (term_of words)) (terms_at words l.bytes)) (values_of l.terms.items) l.rest
