@@ -1,4 +1,6 @@
 pub mod Form
+pub mod Held
 pub mod Memory
 pub mod Outside
 pub mod Reading
+pub mod Text
