@@ -69,6 +69,64 @@ impl Mono {
         self.exponents.iter().sum()
     }
 
+    /// The product: the exponents are added. `High` exactly where the total passes 2^40.
+    pub fn try_mul(&self, o: &Mono) -> Result<Mono, High>
+        ensures value { IfOk result (λ m. m.exponents ≡ plus self.now.exponents o.now.exponents) }
+        ensures high { IsErr result ↔ (2 ^ 40 < total (plus self.now.exponents o.now.exponents)) }
+    {
+        let mut exponents = [0; 8];
+        'add: for (i, exponent) in exponents.iter_mut().enumerate() {
+            *exponent = self.exponents[i] + o.exponents[i];
+        }
+        Mono::new(exponents)
+    }
+
+    /// The q-th power: the exponents are multiplied by q. `High` exactly where the total passes 2^40.
+    pub fn try_scale(&self, q: u64) -> Result<Mono, High>
+        ensures value { IfOk result (λ m. m.exponents ≡ times q self.now.exponents) }
+        ensures high { IsErr result ↔ (2 ^ 40 < total (times q self.now.exponents)) }
+    {
+        let mut exponents = [0; 8];
+        'scale: for (i, exponent) in exponents.iter_mut().enumerate() {
+            *exponent = self.exponents[i].saturating_mul(q);
+        }
+        Mono::new(exponents)
+    }
+
+    /// Whether the monomial divides o: each exponent is at most that of o.
+    pub fn divides(&self, o: &Mono) -> bool
+        ensures { IsTrue result ↔ (divides self.now.exponents o.now.exponents ≡ true) }
+    {
+        self.exponents
+            .iter()
+            .zip(o.exponents.iter())
+            .all(|(x, y)| x <= y)
+    }
+
+    /// The quotient by o, which divides the monomial.
+    pub fn quot(&self, o: &Mono) -> Mono
+        requires { divides o.now.exponents self.now.exponents ≡ true }
+        ensures { result.exponents ≡ minus self.now.exponents o.now.exponents }
+    {
+        let mut exponents = [0; 8];
+        'subtract: for (i, exponent) in exponents.iter_mut().enumerate() {
+            *exponent = self.exponents[i] - o.exponents[i];
+        }
+        Mono { exponents }
+    }
+
+    /// The least common multiple: the greater exponents. `High` exactly where the total passes 2^40.
+    pub fn lcm(&self, o: &Mono) -> Result<Mono, High>
+        ensures value { IfOk result (λ m. m.exponents ≡ greater_exponents self.now.exponents o.now.exponents) }
+        ensures high { IsErr result ↔ (2 ^ 40 < total (greater_exponents self.now.exponents o.now.exponents)) }
+    {
+        let mut exponents = [0; 8];
+        'compare: for (i, exponent) in exponents.iter_mut().enumerate() {
+            *exponent = self.exponents[i].max(o.exponents[i]);
+        }
+        Mono::new(exponents)
+    }
+
     /// The quotient b and the residue a of division by q in each exponent: the monomial is the product of the q-th
     /// power of b and of a, and the exponents of a are below q.
     pub fn split(&self, q: u64) -> (Mono, Mono)
