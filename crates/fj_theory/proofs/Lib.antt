@@ -1,5 +1,6 @@
 pub mod Exponents
 pub mod MonomialOrder
+pub mod Divisibility
 pub mod Keys
 pub mod Field
 pub mod FormalSum
