@@ -63,7 +63,7 @@ dvd_of_prime_to_power n p (suc k) c gcd divides =
     dvd_of_prime_to_power n p k c gcd (dvd_of_prime_to n p (p ^ k * c) (IsGcd-swap p n 1 gcd) (subst (λ m. n ∣ m) e divides))
 
 -- Two numbers of one remainder differ by a multiple.
-dvd_of_same_remainder : (n x y : ℕ) → (x + y) % n ≡ y % n → n ∣ x
+pub dvd_of_same_remainder : (n x y : ℕ) → (x + y) % n ≡ y % n → n ∣ x
 dvd_of_same_remainder n x y e =
     let difference : n * ((x + y) / n) - n * (y / n) ≡ x = omega (arith, div-add-mod (x + y) n, div-add-mod y n) in
     subst (λ m. n ∣ m) difference (dvd-sub n (dvd-mul_right n ((x + y) / n)) (dvd-mul_right n (y / n)))

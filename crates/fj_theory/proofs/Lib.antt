@@ -7,3 +7,5 @@ pub mod FormalSum
 pub mod Polynomial
 pub mod Product
 pub mod PolynomialRing
+pub mod Fraction
+pub mod Digits
