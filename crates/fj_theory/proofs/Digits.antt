@@ -1,41 +1,45 @@
 -- The digits of a fraction of (0, 1]: the recurrence, the numbers that they write, and the period.
-use Rattle.std.proofs.Common.{◌≡◌, ℕ, zero, suc, ◌+◌, ◌-◌, ◌*◌, ◌/◌, ◌%◌, ◌^◌, ◌<◌, ◌≤◌, List, [], ◌∷◌, length, All, Any, refl, sym, ap, ◌∙◌, subst, arith, add-one, inl, inr, ⊎_elim}
+use Rattle.std.proofs.Common.{◌≡◌, ℕ, zero, suc, ◌+◌, ◌-◌, ◌*◌, ◌^◌, ◌<◌, ◌≤◌, List, [], ◌∷◌, length, All, Any, refl, sym, ap, ◌∙◌, subst, arith, add-one, inl, inr, ◌⊎◌, ⊎_elim}
 use Rattle.std.specs.Prelude.{fold}
 use Rattle.std.proofs.lemmas.Bool.{cases_lt}
 use Rattle.std.proofs.lemmas.List.Elements.{All-nil, All-cons}
-use Rattle.std.proofs.lemmas.Nat.{pow-add}
-use Rattle.std.proofs.Math.Nat.{pow-zero, pow-suc, one-le-pow, lt_of_mul-lt-mul_right, lt_of_mul-lt-mul_left, le_of_mul-le-mul_left, le_of_mul-le-mul_right, mul-le-mul_left, mul-le-mul_right, mul-lt-mul_of_pos_left, mul-lt-mul_of_pos_right, mul-div_cancel'}
+use Rattle.std.proofs.Math.Nat.{pow-zero, pow-suc, one-le-pow, lt_of_mul-lt-mul_right, mul-le-mul_left, mul-le-mul_right, mul-lt-mul_of_pos_left, mul-lt-mul_of_pos_right}
 use Rattle.fj_theory.specs.Fraction.{Fraction, SameValue, IsInUnitInterval, ceil_times}
-use Rattle.fj_theory.specs.Digits.{truncation, digit, digits, value_of, IsOrder, IsPeriod, repeated}
+use Rattle.fj_theory.specs.Digits.{truncation, digit, digits, value_of}
 use Rattle.fj_theory.proofs.Fraction.{ceil_times-IsCeiling, ceil_times-SameValue}
-use Rattle.fj_theory.proofs.Divisibility.{dvd_of_same_remainder}
 
 -- N is the greatest whole number below t*p^e.
-record IsTruncation (p : ℕ) (t : Fraction) (e N : ℕ) : Type 0 where
-  below : N * t.denominator < t.numerator * p ^ e
-  next : t.numerator * p ^ e ≤ (N + 1) * t.denominator
+pub record IsTruncation (p : ℕ) (t : Fraction) (e N : ℕ) : Type 0 where
+  pub below : N * t.denominator < t.numerator * p ^ e
+  pub next : t.numerator * p ^ e ≤ (N + 1) * t.denominator
 
-product_positive : (a b : ℕ) → 0 < a → 0 < b → 0 < a * b
+pub product_positive : (a b : ℕ) → 0 < a → 0 < b → 0 < a * b
 product_positive a b h k = let e : 0 * b < a * b = mul-lt-mul_of_pos_right h k in omega arith
 
-truncation-IsTruncation : (p : ℕ) (t : Fraction) (e : ℕ) → 0 < p → 0 < t.numerator → IsTruncation p t e (truncation p t e)
+ceil_times_positive : (p : ℕ) (t : Fraction) (e : ℕ) → 0 < p → 0 < t.numerator → 0 < ceil_times t (p ^ e)
+ceil_times_positive p t e positive above = elim (cases_lt 0 (ceil_times t (p ^ e))) [
+  | inl some ↦ some
+  | inr none ↦
+      let product : ceil_times t (p ^ e) * t.denominator ≤ 0 * t.denominator = mul-le-mul_right t.denominator none in
+      absurd (omega (arith, (ceil_times-IsCeiling t (p ^ e)).enough, product_positive t.numerator (p ^ e) above (one-le-pow e p positive)))
+]
+
+-- ceil(t*p^e) = N_e + 1.
+pub ceil_times-truncation : (p : ℕ) (t : Fraction) (e : ℕ) → 0 < p → 0 < t.numerator → ceil_times t (p ^ e) ≡ truncation p t e + 1
 unfolding truncation
+ceil_times-truncation p t e positive above = omega (arith, ceil_times_positive p t e positive above)
+
+-- N_e is the greatest whole number below t*p^e.
+pub truncation-IsTruncation : (p : ℕ) (t : Fraction) (e : ℕ) → 0 < p → 0 < t.numerator → IsTruncation p t e (truncation p t e)
 truncation-IsTruncation p t e positive above =
-    let c = ceil_times t (p ^ e) in
     let ceiling = ceil_times-IsCeiling t (p ^ e) in
-    let some : 0 < t.numerator * p ^ e = product_positive t.numerator (p ^ e) above (one-le-pow e p positive) in
-    let enough : t.numerator * p ^ e ≤ ceil_times t (p ^ e) * t.denominator = ceiling.enough in
-    let one : 0 < ceil_times t (p ^ e) = elim (cases_lt 0 (ceil_times t (p ^ e))) [
-      | inl h ↦ h
-      | inr h ↦ let none : ceil_times t (p ^ e) * t.denominator ≤ 0 * t.denominator = mul-le-mul_right t.denominator h in absurd (omega arith)
-    ] in
-    let next : ceil_times t (p ^ e) - 1 + 1 ≡ ceil_times t (p ^ e) = omega arith in
+    let next = ceil_times-truncation p t e positive above in
     record {
-      below = elim (cases_lt ((ceil_times t (p ^ e) - 1) * t.denominator) (t.numerator * p ^ e)) [
-        | inl h ↦ h
-        | inr h ↦ let less : ceil_times t (p ^ e) ≤ ceil_times t (p ^ e) - 1 = ceiling.least (ceil_times t (p ^ e) - 1) h in absurd (omega arith)
+      below = elim (cases_lt (truncation p t e * t.denominator) (t.numerator * p ^ e)) [
+        | inl less ↦ less
+        | inr enough ↦ absurd (omega (arith, ceiling.least (truncation p t e) enough))
       ];
-      next = rw next enough;
+      next = subst (λ c. t.numerator * p ^ e ≤ c * t.denominator) next ceiling.enough;
     }
 
 IsTruncation-le : (p : ℕ) (t : Fraction) (e N M : ℕ) → IsTruncation p t e N → IsTruncation p t e M → N ≤ M
@@ -44,7 +48,7 @@ IsTruncation-le p t e N M h k =
     let below : N < M + 1 = lt_of_mul-lt-mul_right t.denominator less in
     omega arith
 
-IsTruncation-unique : (p : ℕ) (t : Fraction) (e N M : ℕ) → IsTruncation p t e N → IsTruncation p t e M → N ≡ M
+pub IsTruncation-unique : (p : ℕ) (t : Fraction) (e N M : ℕ) → IsTruncation p t e N → IsTruncation p t e M → N ≡ M
 IsTruncation-unique p t e N M h k = omega (arith, IsTruncation-le p t e N M h k, IsTruncation-le p t e M N k h)
 
 -- The recurrence N_(e+1) = p*N_e + d, with a digit below p.
@@ -125,3 +129,22 @@ truncation-more p t e k positive above =
     sym (fold_digits p t e k positive above)
     ∙ fold_from p (truncation p t e) (digits p t e k)
     ∙ ap (λ n. p ^ n * truncation p t e + fold (λ n d. p * n + d) 0 (digits p t e k)) (length-digits p t e k)
+
+value_of_positive_from : (p n : ℕ) (ds : List ℕ) → 0 < fold (λ n d. p * n + d) n ds → (0 < n) ⊎ Any (λ d. 0 < d) ds
+value_of_positive_from p n [] positive = inl positive
+value_of_positive_from p n (d ∷ ds) positive =
+    elim (value_of_positive_from p (p * n + d) ds positive) [
+      | inl some ↦ elim (cases_lt 0 d) [
+        | inl here ↦ inr (0, d, omega arith, refl, here)
+        | inr none ↦ elim (cases_lt 0 n) [
+          | inl before ↦ inl before
+          | inr nothing ↦ let product : p * n ≤ p * 0 = mul-le-mul_left p nothing in absurd (omega arith)
+        ]
+      ]
+      | inr later ↦ inr (later.0 + 1, later.1, omega (arith, later.2), rw add-one later.3, later.4)
+    ]
+
+-- Digits that write a positive number aren't all zero.
+pub Any-value_of : (p : ℕ) (ds : List ℕ) → 0 < value_of p ds → Any (λ d. 0 < d) ds
+unfolding value_of
+Any-value_of p ds positive = ⊎_elim (λ (none : 0 < 0). absurd (omega arith)) (λ (some : Any (λ d. 0 < d) ds). some) (value_of_positive_from p 0 ds positive)

@@ -9,3 +9,4 @@ pub mod Product
 pub mod PolynomialRing
 pub mod Fraction
 pub mod Digits
+pub mod Period
