@@ -68,7 +68,8 @@ dvd_of_same_remainder n x y e =
     let difference : n * ((x + y) / n) - n * (y / n) ≡ x = omega (arith, div-add-mod (x + y) n, div-add-mod y n) in
     subst (λ m. n ∣ m) difference (dvd-sub n (dvd-mul_right n ((x + y) / n)) (dvd-mul_right n (y / n)))
 
-less_one : (x y : ℕ) → 0 < y → x * (y - 1) + x ≡ x * y
+-- A product with one less.
+pub less_one : (x y : ℕ) → 0 < y → x * (y - 1) + x ≡ x * y
 less_one x zero some = absurd (omega arith)
 less_one x (suc y) some = let e : suc y - 1 ≡ y = omega arith in rw e (omega arith)
 

@@ -10,3 +10,4 @@ pub mod PolynomialRing
 pub mod Fraction
 pub mod Digits
 pub mod Period
+pub mod Candidates
