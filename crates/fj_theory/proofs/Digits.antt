@@ -1,5 +1,5 @@
 -- The digits of a fraction of (0, 1]: the recurrence, the numbers that they write, and the period.
-use Rattle.std.proofs.Common.{◌≡◌, ℕ, zero, suc, ◌+◌, ◌-◌, ◌*◌, ◌^◌, ◌<◌, ◌≤◌, List, [], ◌∷◌, length, All, Any, refl, sym, ap, ◌∙◌, subst, arith, add-one, inl, inr, ◌⊎◌, ⊎_elim}
+use Rattle.std.proofs.Common.{◌≡◌, ℕ, zero, suc, ◌+◌, ◌-◌, ◌*◌, ◌^◌, ◌<◌, ◌≤◌, List, [], ◌∷◌, ◌++◌, length, All, Any, refl, sym, ap, ◌∙◌, subst, arith, add-one, inl, inr, ◌⊎◌, ⊎_elim}
 use Rattle.std.specs.Prelude.{fold}
 use Rattle.std.proofs.lemmas.Bool.{cases_lt}
 use Rattle.std.proofs.lemmas.List.Elements.{All-nil, All-cons}
@@ -87,6 +87,13 @@ pub length-digits : (p : ℕ) (t : Fraction) (from count : ℕ) → length (digi
 unfolding digits
 length-digits p t from zero = refl
 length-digits p t from (suc count) = ap suc (length-digits p t (from + 1) count)
+
+-- One more digit.
+pub digits-push : (p : ℕ) (t : Fraction) (from count : ℕ) → digits p t from (suc count) ≡ digits p t from count ++ digit p t (from + count) ∷ []
+unfolding digits
+digits-push p t from zero = let place : from + 0 ≡ from = omega arith in rw place refl
+digits-push p t from (suc count) =
+    ap (λ ds. digit p t from ∷ ds) (digits-push p t (from + 1) count ∙ (let place : from + 1 + count ≡ from + suc count = omega arith in rw place refl))
 
 -- The digits are below p.
 pub digits_below : (p : ℕ) (t : Fraction) (from count : ℕ) → 0 < p → 0 < t.numerator → All (λ d. d < p) (digits p t from count)

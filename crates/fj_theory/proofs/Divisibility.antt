@@ -1,11 +1,16 @@
 -- Common divisors: Gauss's lemma, fractions in lowest terms, and numbers prime to a power.
-use Rattle.std.proofs.Common.{◌≡◌, ℕ, zero, suc, ◌+◌, ◌-◌, ◌*◌, ◌/◌, ◌%◌, ◌^◌, ◌<◌, ◌≤◌, refl, sym, ap, ◌∙◌, subst, arith, mul_comm, inl, inr, if◌then◌else◌, ◌==◌}
+use Rattle.std.proofs.Common.{◌≡◌, ℕ, zero, suc, ◌+◌, ◌-◌, ◌*◌, ◌/◌, ◌%◌, ◌^◌, ◌<◌, ◌≤◌, refl, sym, ap, ◌∙◌, subst, arith, mul_comm, inl, inr, ◌⊎◌, if◌then◌else◌, ◌==◌, Bool, true, eqb, eq-eqb}
 use Rattle.std.specs.Int.{IsGcd, ◌∣◌}
-use Rattle.std.proofs.lemmas.Nat.Gcd.{dvd_antisymm, IsGcd-from_zero, IsGcd-from_mod, IsGcd-swap, same_from_IsGcd}
+use Rattle.std.proofs.lemmas.Nat.Gcd.{dvd_refl, le_of_dvd, mod-eq-zero_of_dvd, dvd_antisymm, IsGcd-from_zero, IsGcd-from_mod, IsGcd-swap, same_from_IsGcd}
 use Rattle.std.proofs.lemmas.Nat.{mod_below, mod-mul-add, pow-add}
-use Rattle.std.proofs.lemmas.Bool.{cases_order}
+use Rattle.std.proofs.lemmas.Bool.{agree_below, agree_below_at, and_parts, or_cases, ltb-true, cases_lt, cases_order}
+use Rattle.std.proofs.lemmas.List.Elements.{All-contains}
+use Rattle.std.proofs.lemmas.List.Sums.{AllPass-from_list_all}
+use Rattle.std.proofs.Math.Dec.{ltb}
+use Rattle.fj_coeff.specs.Field.{primes}
+use Rattle.std.specs.Prelude.{Contains, ◌&&◌, ◌||◌, not}
 use Rattle.std.proofs.lemmas.Bool.Decides.{nat_tests}
-use Rattle.std.proofs.Math.Nat.{dvd-mul_left, dvd-mul_right, dvd-mod_iff, div-add-mod, mul-le-mul_left, one-dvd, dvd_of_mul-dvd-mul_left, mul-dvd-mul_left, eq_of_mul-eq-mul_left, mul-div_cancel', pow-zero, pow-suc, one-le-pow, dvd-sub, mul-add-mod_self_left}
+use Rattle.std.proofs.Math.Nat.{pos_of_dvd_of_pos, dvd-mul_left, dvd-mul_right, dvd-mod_iff, div-add-mod, mul-le-mul_left, one-dvd, dvd_of_mul-dvd-mul_left, mul-dvd-mul_left, eq_of_mul-eq-mul_left, mul-div_cancel', pow-zero, pow-suc, one-le-pow, dvd-sub, mul-add-mod_self_left}
 
 scaled_remainder : (k a b : ℕ) → 0 < b → (k * a) % (k * b) ≡ k * (a % b)
 scaled_remainder zero a b positive = omega arith
@@ -119,3 +124,34 @@ order_exists p n positive some gcd none =
     in
     let few : n + 1 ≤ n = pigeonhole (λ k. p ^ k % n) (n + 1) n (record { below = λ k below. mod_below (p ^ k) n some; same = one }) in
     omega arith
+
+-- what is computed for each prime: no number from 2 on below it divides it
+has_no_divisor : ℕ → Bool
+has_no_divisor p = ltb 1 p && agree_below (λ d. ltb d 2 || not (eqb (p % d) 0)) (λ _. true) p
+
+primes_have_none : (p : ℕ) → Contains primes p → has_no_divisor p ≡ true
+unfolding has_no_divisor primes
+primes_have_none p prime = All-contains (λ q. has_no_divisor q ≡ true) primes p (AllPass-from_list_all has_no_divisor primes refl) prime
+
+small_or_no_divisor : (p d : ℕ) → (ltb d 2 ≡ true) ⊎ (not (eqb (p % d) 0) ≡ true) → p % d ≡ 0 → d < 2
+small_or_no_divisor p d (inl small) e = ltb-true d 2 small
+small_or_no_divisor p d (inr none) e = let zero : eqb (p % d) 0 ≡ true = eq-eqb (p % d) 0 e in cc
+
+-- A prime that doesn't divide a number is prime to it.
+pub prime_to_from_remainder : (p n : ℕ) → Contains primes p → 0 < n % p → IsGcd p n 1
+unfolding has_no_divisor
+prime_to_from_remainder p n prime remainder =
+    let known : (ltb 1 p ≡ true) × (agree_below (λ d. ltb d 2 || not (eqb (p % d) 0)) (λ _. true) p ≡ true) = and_parts _ _ (primes_have_none p prime) in
+    let large : 1 < p = ltb-true 1 p known.0 in
+    (one-dvd p, one-dvd n, λ d first second.
+        let at_most : d ≤ p = le_of_dvd (omega arith) first in
+        let some : 0 < d = pos_of_dvd_of_pos first (omega arith) in
+        elim (cases_lt d p) [
+          | inl below ↦
+            let small : d < 2 = small_or_no_divisor p d (or_cases _ _ (agree_below_at (λ d. ltb d 2 || not (eqb (p % d) 0)) (λ _. true) p d known.1 below)) (mod-eq-zero_of_dvd d first) in
+            let one : 1 ≡ d = omega arith in
+            subst (λ k. k ∣ 1) one (dvd_refl 1)
+          | inr whole ↦
+            let same : d ≡ p = omega arith in
+            absurd (omega (arith, mod-eq-zero_of_dvd p (subst (λ k. k ∣ n) same second)))
+        ])

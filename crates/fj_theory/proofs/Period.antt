@@ -1,12 +1,12 @@
 -- The period of a fraction of (0, 1]: what its digits write, and ceil(t*p^e) at whole numbers of periods.
-use Rattle.std.proofs.Common.{◌≡◌, ℕ, zero, suc, ◌+◌, ◌-◌, ◌*◌, ◌/◌, ◌%◌, ◌^◌, ◌<◌, ◌≤◌, sym, ap, ◌∙◌, subst, arith, inl, inr}
+use Rattle.std.proofs.Common.{◌≡◌, ℕ, zero, suc, ◌+◌, ◌-◌, ◌*◌, ◌/◌, ◌%◌, ◌^◌, ◌<◌, ◌≤◌, sym, ap, ◌∙◌, subst, arith, add-one, inl, inr}
 use Rattle.std.proofs.lemmas.Bool.{cases_lt}
 use Rattle.std.proofs.lemmas.Nat.{pow-add}
 use Rattle.std.proofs.Math.Nat.{add_left_cancel, pow-zero, pow-suc, one-le-pow, lt_of_mul-lt-mul_right, lt_of_mul-lt-mul_left, le_of_mul-le-mul_left, mul-le-mul_left, mul-le-mul_right, mul-div_cancel'}
-use Rattle.fj_theory.specs.Fraction.{Fraction, ceil_times}
-use Rattle.fj_theory.specs.Digits.{truncation, digits, value_of, IsPeriod, repeated}
+use Rattle.fj_theory.specs.Fraction.{Fraction, IsInUnitInterval, ceil_times}
+use Rattle.fj_theory.specs.Digits.{truncation, digit, digits, value_of, IsPeriod, repeated}
 use Rattle.fj_theory.proofs.Divisibility.{dvd_of_same_remainder}
-use Rattle.fj_theory.proofs.Digits.{truncation-IsTruncation, IsTruncation-unique, truncation-more, ceil_times-truncation, product_positive}
+use Rattle.fj_theory.proofs.Digits.{digit-IsDigit, truncation-zero, truncation-IsTruncation, IsTruncation-unique, truncation-more, ceil_times-truncation, product_positive}
 
 -- What the period says: with n = p^c*rest, the rest u = p^c*t - N_c lies in (0, 1] and is remainder/rest, and the number
 -- a = u*(p^b - 1) is whole, positive and below p^b, and is what the digits of the period write.
@@ -20,10 +20,10 @@ pub record IsPeriodValue (p : ℕ) (t : Fraction) (c b rest : ℕ) : Type 0 wher
   pub value_below : value_of p (digits p t c b) < p ^ b
 
 -- p^e*t = N + R/n with R in (0, n].
-record IsRemainder (p : ℕ) (t : Fraction) (e N R : ℕ) : Type 0 where
-  whole : t.numerator * p ^ e ≡ t.denominator * N + R
-  above_zero : 0 < R
-  at_most_one : R ≤ t.denominator
+pub record IsRemainder (p : ℕ) (t : Fraction) (e N R : ℕ) : Type 0 where
+  pub whole : t.numerator * p ^ e ≡ t.denominator * N + R
+  pub above_zero : 0 < R
+  pub at_most_one : R ≤ t.denominator
 
 truncation-from_remainder : (p : ℕ) (t : Fraction) (e N R : ℕ) → 0 < p → 0 < t.numerator → IsRemainder p t e N R → truncation p t e ≡ N
 truncation-from_remainder p t e N R positive above h =
@@ -31,6 +31,28 @@ truncation-from_remainder p t e N R positive above h =
       below = omega (arith, h.whole, h.above_zero);
       next = omega (arith, h.whole, h.at_most_one);
     })
+
+-- The digit at e is the quotient of p*R, and what it leaves is the next remainder.
+pub record Continues (p : ℕ) (t : Fraction) (e d R : ℕ) : Type 0 where
+  pub digit_is : digit p t e ≡ d
+  pub remainder : IsRemainder p t (e + 1) (truncation p t (e + 1)) R
+
+pub remainder-next : (p : ℕ) (t : Fraction) (e R d S : ℕ) → 0 < p → 0 < t.numerator → IsRemainder p t e (truncation p t e) R
+    → p * R ≡ t.denominator * d + S → 0 < S → S ≤ t.denominator → Continues p t e d S
+remainder-next p t e R d S positive above h step some at_most =
+    let power : t.numerator * p ^ (e + 1) ≡ p * (t.numerator * p ^ e) = rw add-one (ap (λ n. t.numerator * n) (pow-suc p e) ∙ omega arith) in
+    let scaled : p * (t.numerator * p ^ e) ≡ p * (t.denominator * truncation p t e + R) = ap (λ n. p * n) h.whole in
+    let next : IsRemainder p t (e + 1) (p * truncation p t e + d) S = record { whole = omega arith; above_zero = some; at_most_one = at_most } in
+    let number : truncation p t (e + 1) ≡ p * truncation p t e + d = truncation-from_remainder p t (e + 1) (p * truncation p t e + d) S positive above next in
+    record {
+      digit_is = omega (arith, (digit-IsDigit p t e positive above).recurrence);
+      remainder = subst (λ N. IsRemainder p t (e + 1) N S) (sym number) next;
+    }
+
+-- A fraction of (0, 1] is its own remainder.
+pub remainder-first : (p : ℕ) (t : Fraction) → IsInUnitInterval t → IsRemainder p t 0 (truncation p t 0) t.numerator
+remainder-first p t unit =
+    rw (truncation-zero p t unit.at_most_one) (record { whole = rw (pow-zero p) (omega arith); above_zero = unit.above_zero; at_most_one = unit.at_most_one })
 
 -- Where R*(p^b - 1)/n is a whole number, the next b digits write it and leave R.
 IsRemainder-more : (p : ℕ) (t : Fraction) (e N R a b : ℕ) → IsRemainder p t e N R → t.denominator * a + R ≡ R * p ^ b

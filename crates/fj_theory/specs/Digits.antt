@@ -35,15 +35,15 @@ pub record IsPeriod (p n c b : ℕ) : Type 0 where
   pub prime_to : IsGcd p rest 1
   pub order : IsOrder p rest b
 
--- A base, the digits of a pre-period and those of a period.
+-- A prime p, and the digits in base p of a pre-period and of a period.
 pub record Expansion : Type 0 where
-  pub base : ℕ
+  pub prime : ℕ
   pub pre : List ℕ
   pub period : List ℕ
 
 -- The expansion of a fraction in lowest terms in base p.
 pub record IsExpansion (p : ℕ) (t : Fraction) (d : Expansion) : Type 0 where
-  pub base : d.base ≡ p
+  pub prime : d.prime ≡ p
   pub lowest : IsLowest t
   pub lengths : IsPeriod p t.denominator (length d.pre) (length d.period)
   pub pre : d.pre ≡ digits p t 0 (length d.pre)
