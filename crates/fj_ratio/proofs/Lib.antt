@@ -1,1 +1,4 @@
 pub mod LowestTerms
+pub mod NextDigit
+pub mod SplitPower
+pub mod Expanded

@@ -1,3 +1,4 @@
 pub mod Lowest
 pub mod FractionCode
 pub mod RatioLaws
+pub mod ExpansionDigits

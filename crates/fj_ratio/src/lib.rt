@@ -1,6 +1,8 @@
-//! Fractions in lowest terms.
+//! Fractions in lowest terms, and their digits in a base p.
 #![tactic(auto)]
 
+mod digits;
 mod ratio;
 
+pub use digits::Digits;
 pub use ratio::{Ratio, RatioFault};
