@@ -2,3 +2,4 @@ pub mod LowestTerms
 pub mod NextDigit
 pub mod SplitPower
 pub mod Expanded
+pub mod Rows

@@ -2,3 +2,4 @@ pub mod Lowest
 pub mod FractionCode
 pub mod RatioLaws
 pub mod ExpansionDigits
+pub mod Multiples

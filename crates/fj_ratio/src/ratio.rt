@@ -61,6 +61,18 @@ impl Ratio {
         })
     }
 
+    /// The fraction num/den.
+    pub(crate) fn of(num: u32, den: u16) -> Ratio
+        requires { 0 < den }
+        ensures { IsLowestForm num den result }
+    {
+        let (num, den) = lowest_terms(u64::from(num), u64::from(den));
+        Ratio {
+            num: num as u32,
+            den: den as u16,
+        }
+    }
+
     /// The numerator in lowest terms.
     pub fn num(&self) -> u64
         ensures value { result ≡ self.now.numerator }
