@@ -40,3 +40,46 @@ fn push_multiples(list: &mut Vec<Ratio>, d: u64) -> Result<(), AllocError>
     }
     Ok(())
 }
+
+#[cfg(test)]
+mod tests {
+    use super::*;
+    use std::process::Abort;
+    use std::test::Fail;
+
+    fn lists(
+        rt: &(impl Abort + AllocGlobal),
+        p: u64,
+        e: u32,
+        members: &[(u64, u64)],
+    ) -> Result<(), AllocError>
+        requires prime { Contains primes p }
+        requires positive { 1 ≤ e }
+        requires small { p ^ e ≤ 65536 }
+    {
+        let list = candidates(rt.alloc(), p, e)?;
+        assert_eq!(rt; list.len(), members.len());
+        for (t, (num, den)) in list.iter().zip(members) {
+            assert_eq!(rt; (t.num(), t.den()), (*num, *den));
+        }
+        Ok(())
+    }
+
+    #[test]
+    fn small_lists(rt: HostRuntime) -> Result<(), Fail> {
+        lists(&rt, 2, 1, &[(1, 1)])?;
+        lists(&rt, 2, 2, &[(1, 3), (1, 2), (2, 3), (1, 1)])?;
+        lists(&rt, 3, 1, &[(1, 2), (1, 1)])?;
+        lists(&rt, 5, 1, &[(1, 4), (1, 2), (3, 4), (1, 1)])?;
+        lists(&rt, 7, 1, &[(1, 6), (1, 3), (1, 2), (2, 3), (5, 6), (1, 1)])?;
+        Ok(())
+    }
+
+    // The longest list.
+    #[test]
+    fn longest_list(rt: HostRuntime) -> Result<(), Fail> {
+        let list = candidates(rt.alloc(), 2, 16)?;
+        assert_eq!(rt; list.len(), 925_468);
+        Ok(())
+    }
+}

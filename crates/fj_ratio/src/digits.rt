@@ -135,3 +135,41 @@ fn next_digit(p: u64, n: u64, remainder: &mut u64) -> u8
     *remainder = product - digit * n;
     digit as u8
 }
+
+#[cfg(test)]
+mod tests {
+    use super::*;
+    use std::process::Abort;
+    use std::test::Fail;
+
+    fn expands(
+        rt: &(impl Abort + AllocGlobal),
+        p: u64,
+        t: (u64, u64),
+        pre: &[u8],
+        period: &[u8],
+    ) -> Result<(), AllocError>
+        requires { Contains primes p }
+    {
+        let t = Ratio::new(t.0, t.1).expect(rt, "a narrow fraction");
+        assert!(rt; 0 < t.num());
+        assert!(rt; t.num() <= t.den());
+        let digits = Digits::of(rt.alloc(), p, &t)?;
+        assert_eq!(rt; digits.prime(), p);
+        assert!(rt; digits.pre() == pre);
+        assert!(rt; digits.period() == period);
+        Ok(())
+    }
+
+    #[test]
+    fn expansions(rt: HostRuntime) -> Result<(), Fail> {
+        expands(&rt, 2, (1, 2), &[0], &[1])?;
+        expands(&rt, 2, (1, 3), &[], &[0, 1])?;
+        expands(&rt, 2, (2, 3), &[], &[1, 0])?;
+        expands(&rt, 2, (1, 6), &[0], &[0, 1])?;
+        expands(&rt, 5, (4, 5), &[3], &[4])?;
+        expands(&rt, 7, (5, 6), &[], &[5])?;
+        expands(&rt, 13, (1, 1), &[], &[12])?;
+        Ok(())
+    }
+}

@@ -180,3 +180,66 @@ impl Ord for Ratio {
         )
     }
 }
+
+#[cfg(test)]
+mod tests {
+    use super::*;
+    use std::process::Abort;
+
+    // Each row: a numerator and a denominator, and those in lowest terms.
+    #[test]
+    fn lowest_forms(rt: HostRuntime) {
+        let rows = [
+            (6, 8, 3, 4),
+            (2, 131_070, 1, 65_535),
+            (0, 5, 0, 1),
+            (8, 1, 8, 1),
+            (u64::MAX, u64::MAX, 1, 1),
+            (4_294_967_295, 1, 4_294_967_295, 1),
+        ];
+        for (num, den, lowest_num, lowest_den) in rows {
+            let t = Ratio::new(num, den).expect(&rt, "a narrow fraction");
+            assert_eq!(rt; (t.num(), t.den()), (lowest_num, lowest_den));
+        }
+    }
+
+    #[test]
+    fn faults(rt: HostRuntime) {
+        assert!(rt; Ratio::new(1, 0).is_err_and(|fault| fault == RatioFault::Zero));
+        assert!(rt; Ratio::new(0, 0).is_err_and(|fault| fault == RatioFault::Zero));
+        for (num, den) in [(1, 65_536), (4_294_967_296, 1), (u64::MAX, 2)] {
+            assert!(rt; Ratio::new(num, den).is_err_and(|fault| fault == RatioFault::TooWide));
+        }
+    }
+
+    fn ratio(rt: &impl Abort, num: u64, den: u64) -> Ratio {
+        Ratio::new(num, den).expect(rt, "a narrow fraction")
+    }
+
+    // Each row: a fraction, a whole number q, and the least whole number not below their product.
+    #[test]
+    fn ceilings(rt: HostRuntime) {
+        for (num, den, q, ceiling) in [
+            (4, 5, 25, 20),
+            (4, 5, 24, 20),
+            (4, 5, 26, 21),
+            (1, 3, 0, 0),
+            (0, 1, 7, 0),
+        ] {
+            assert_eq!(rt; ratio(&rt, num, den).ceil_times(q), ceiling);
+        }
+        let product = u128::from(u32::MAX) * u128::from(u64::MAX);
+        assert_eq!(rt; ratio(&rt, 4_294_967_295, 1).ceil_times(u64::MAX), product);
+    }
+
+    #[test]
+    fn order_by_value(rt: HostRuntime) {
+        let third = ratio(&rt, 1, 3);
+        let half = ratio(&rt, 1, 2);
+        assert!(rt; third < half);
+        assert!(rt; half < ratio(&rt, 2, 3));
+        assert!(rt; half == ratio(&rt, 4, 8));
+        assert!(rt; half != third);
+        assert!(rt; third.cmp(&ratio(&rt, 2, 6)) == Ordering::Equal);
+    }
+}
