@@ -1,8 +1,8 @@
 -- The candidates by rows: C_E consists of the fractions m/(p^E - p^c) of (0, 1], with c below E.
-use Rattle.std.proofs.Common.{◌≡◌, ℕ, ◌+◌, ◌-◌, ◌*◌, ◌^◌, ◌<◌, ◌≤◌, sym, ap, ◌∙◌, arith}
+use Rattle.std.proofs.Common.{◌≡◌, ℕ, zero, suc, ◌+◌, ◌-◌, ◌*◌, ◌^◌, ◌<◌, ◌≤◌, sym, ap, ◌∙◌, arith, mul_comm}
 use Rattle.std.proofs.lemmas.Nat.{pow-add}
-use Rattle.std.proofs.Math.Nat.{one-le-pow, mul-le-mul_right, eq_of_mul-eq-mul_right}
-use Rattle.fj_theory.specs.Fraction.{Fraction, SameValue}
+use Rattle.std.proofs.Math.Nat.{pow-zero, pow-suc, le_of_mul-le-mul_right, one-le-pow, mul-le-mul_right, eq_of_mul-eq-mul_right}
+use Rattle.fj_theory.specs.Fraction.{Fraction, SameValue, IsInUnitInterval}
 use Rattle.fj_theory.specs.Candidates.{IsCandidate}
 use Rattle.fj_theory.proofs.Digits.{product_positive}
 use Rattle.fj_theory.proofs.Divisibility.{less_one}
@@ -43,6 +43,10 @@ scaled_value n d m q k e scaled value = omega (arith, ap (λ x. n * x) scaled, a
 moved_value : (a b c d m k : ℕ) → a * d ≡ c * b → a * k ≡ m * b → c * k * b ≡ m * d * b
 moved_value a b c d m k same value = omega (arith, ap (λ x. x * k) same, ap (λ x. x * d) value)
 
+factor_positive : (a b : ℕ) → 0 < a * b → 0 < a
+factor_positive zero b some = absurd (omega arith)
+factor_positive (suc a) b some = omega arith
+
 -- A candidate is a fraction of a row.
 pub row_from_IsCandidate : (p E : ℕ) (t : Fraction) → 0 < p → IsCandidate p E t → (c : ℕ) × (c < E) × IsMultiple (p ^ E - p ^ c) t
 row_from_IsCandidate p E t positive h =
@@ -76,3 +80,31 @@ IsCandidate-SameValue p E s t same h = record {
   value = eq_of_mul-eq-mul_right s.denominator s.positive (t.numerator * (p ^ h.pre * (p ^ h.period - 1))) (h.numerator * t.denominator)
       (moved_value s.numerator s.denominator t.numerator t.denominator h.numerator (p ^ h.pre * (p ^ h.period - 1)) same h.value);
 }
+
+-- A candidate lies in (0, 1].
+pub IsInUnitInterval-from_candidate : (p E : ℕ) (t : Fraction) → 0 < p → IsCandidate p E t → IsInUnitInterval t
+IsInUnitInterval-from_candidate p E t positive h =
+    let some : 0 < h.numerator * t.denominator = product_positive h.numerator t.denominator h.above_zero t.positive in
+    let fits : h.numerator * t.denominator ≤ p ^ h.pre * (p ^ h.period - 1) * t.denominator = mul-le-mul_right t.denominator h.at_most_one in
+    let product : t.numerator * (p ^ h.pre * (p ^ h.period - 1)) ≤ t.denominator * (p ^ h.pre * (p ^ h.period - 1)) =
+    omega (arith, h.value, mul_comm t.denominator (p ^ h.pre * (p ^ h.period - 1)))
+    in
+    record {
+      above_zero = factor_positive t.numerator (p ^ h.pre * (p ^ h.period - 1)) (omega (arith, h.value));
+      at_most_one = le_of_mul-le-mul_right product (omega (arith, h.above_zero, h.at_most_one));
+    }
+
+-- 1 is a candidate.
+pub IsCandidate-one : (p E : ℕ) (t : Fraction) → 1 < p → 1 ≤ E → t.numerator ≡ t.denominator → IsCandidate p E t
+IsCandidate-one p E t large some one =
+    let denominator : p ^ 0 * (p ^ 1 - 1) ≡ p - 1 = rw (pow-zero p, pow-suc p 0, pow-zero p) (omega arith) in
+    record {
+      numerator = p - 1;
+      pre = 0;
+      period = 1;
+      period_positive = omega arith;
+      short = omega arith;
+      above_zero = omega arith;
+      at_most_one = omega (arith, denominator);
+      value = ap (λ n. t.numerator * n) denominator ∙ ap (λ n. n * (p - 1)) one ∙ mul_comm t.denominator (p - 1);
+    }

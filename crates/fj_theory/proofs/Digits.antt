@@ -137,6 +137,19 @@ truncation-more p t e k positive above =
     ∙ fold_from p (truncation p t e) (digits p t e k)
     ∙ ap (λ n. p ^ n * truncation p t e + fold (λ n d. p * n + d) 0 (digits p t e k)) (length-digits p t e k)
 
+-- The first digit counts most, the last digit least.
+pub value_of-cons : (p d : ℕ) (ds : List ℕ) → value_of p (d ∷ ds) ≡ p ^ length ds * d + value_of p ds
+unfolding value_of
+value_of-cons p d ds = fold_from p (p * 0 + d) ds ∙ (let e : p * 0 + d ≡ d = omega arith in ap (λ n. p ^ length ds * n + fold (λ n d. p * n + d) 0 ds) e)
+
+fold-push : (p n d : ℕ) (ds : List ℕ) → fold (λ n d. p * n + d) n (ds ++ d ∷ []) ≡ p * fold (λ n d. p * n + d) n ds + d
+fold-push p n d [] = refl
+fold-push p n d (x ∷ ds) = fold-push p (p * n + x) d ds
+
+pub value_of-push : (p d : ℕ) (ds : List ℕ) → value_of p (ds ++ d ∷ []) ≡ p * value_of p ds + d
+unfolding value_of
+value_of-push p d ds = fold-push p 0 d ds
+
 value_of_positive_from : (p n : ℕ) (ds : List ℕ) → 0 < fold (λ n d. p * n + d) n ds → (0 < n) ⊎ Any (λ d. 0 < d) ds
 value_of_positive_from p n [] positive = inl positive
 value_of_positive_from p n (d ∷ ds) positive =

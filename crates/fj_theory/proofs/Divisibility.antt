@@ -142,16 +142,19 @@ pub prime_to_from_remainder : (p n : ℕ) → Contains primes p → 0 < n % p �
 unfolding has_no_divisor
 prime_to_from_remainder p n prime remainder =
     let known : (ltb 1 p ≡ true) × (agree_below (λ d. ltb d 2 || not (eqb (p % d) 0)) (λ _. true) p ≡ true) = and_parts _ _ (primes_have_none p prime) in
-    let large : 1 < p = ltb-true 1 p known.0 in
-    (one-dvd p, one-dvd n, λ d first second.
-        let at_most : d ≤ p = le_of_dvd (omega arith) first in
-        let some : 0 < d = pos_of_dvd_of_pos first (omega arith) in
-        elim (cases_lt d p) [
-          | inl below ↦
-            let small : d < 2 = small_or_no_divisor p d (or_cases _ _ (agree_below_at (λ d. ltb d 2 || not (eqb (p % d) 0)) (λ _. true) p d known.1 below)) (mod-eq-zero_of_dvd d first) in
-            let one : 1 ≡ d = omega arith in
-            subst (λ k. k ∣ 1) one (dvd_refl 1)
-          | inr whole ↦
-            let same : d ≡ p = omega arith in
-            absurd (omega (arith, mod-eq-zero_of_dvd p (subst (λ k. k ∣ n) same second)))
-        ])
+    let large : 1 < p = ltb-true 1 p known.0 in (
+      one-dvd p,
+      one-dvd n,
+      λ d first second.
+          let at_most : d ≤ p = le_of_dvd (omega arith) first in
+          let some : 0 < d = pos_of_dvd_of_pos first (omega arith) in
+          elim (cases_lt d p) [
+            | inl below ↦
+                let small : d < 2 = small_or_no_divisor p d (or_cases _ _ (agree_below_at (λ d. ltb d 2 || not (eqb (p % d) 0)) (λ _. true) p d known.1 below)) (mod-eq-zero_of_dvd d first) in
+                let one : 1 ≡ d = omega arith in
+                subst (λ k. k ∣ 1) one (dvd_refl 1)
+            | inr whole ↦
+                let same : d ≡ p = omega arith in
+                absurd (omega (arith, mod-eq-zero_of_dvd p (subst (λ k. k ∣ n) same second)))
+          ],
+    )

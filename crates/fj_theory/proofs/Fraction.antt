@@ -1,5 +1,5 @@
 -- The order of fractions by value, and the least whole number not below a multiple of a fraction.
-use Rattle.std.proofs.Common.{◌≡◌, ℕ, ◌+◌, ◌*◌, ◌/◌, ◌%◌, ◌<◌, ◌≤◌, min, sym, ap, ◌∙◌, arith, inl, inr, ◌⊎◌, ⊎_elim}
+use Rattle.std.proofs.Common.{◌≡◌, ℕ, ◌+◌, ◌-◌, ◌*◌, ◌/◌, ◌%◌, ◌<◌, ◌≤◌, min, sym, ap, ◌∙◌, subst, arith, inl, inr, ◌⊎◌, ⊎_elim}
 use Rattle.std.specs.Int.{div_ceil}
 use Rattle.std.specs.Ordering.{nat_cmp}
 use Rattle.std.specs.Cmp.{IsTotalOrder, nat_cmp_total}
@@ -8,7 +8,7 @@ use Rattle.std.proofs.lemmas.Bool.{cases_order}
 use Rattle.std.proofs.lemmas.Bool.Decides.{nat_tests}
 use Rattle.std.proofs.lemmas.Cmp.{ranked}
 use Rattle.std.proofs.lemmas.Nat.{mod_below}
-use Rattle.std.proofs.Math.Nat.{div-add-mod, eq-zero-or-pos, le_of_mul-le-mul_right, lt_of_mul-lt-mul_right, mul-le-mul_right, mul-lt-mul_of_pos_right, eq_of_mul-eq-mul_right}
+use Rattle.std.proofs.Math.Nat.{div-add-mod, eq-zero-or-pos, le_of_mul-le-mul_right, lt_of_mul-lt-mul_right, mul-le-mul_left, mul-le-mul_right, mul-lt-mul_of_pos_right, eq_of_mul-eq-mul_right}
 use Rattle.fj_theory.specs.Fraction.{Fraction, SameValue, compare, ceil_times}
 
 -- A quotient rounded up is the least number whose product with the divisor isn't below.
@@ -49,18 +49,18 @@ SameValue-trans s t u e f =
     eq_of_mul-eq-mul_right t.denominator t.positive (s.numerator * u.denominator) (u.numerator * s.denominator)
     (omega (arith, ap (λ n. n * u.denominator) e, ap (λ n. n * s.denominator) f))
 
-ceil_times_below : (s t : Fraction) (q : ℕ) → SameValue s t → ceil_times s q ≤ ceil_times t q
-ceil_times_below s t q e =
-    let c = ceil_times t q in
+-- ceil(t*q) rises with t.
+pub ceil_times-le : (s t : Fraction) (q : ℕ) → s.numerator * t.denominator ≤ t.numerator * s.denominator → ceil_times s q ≤ ceil_times t q
+ceil_times-le s t q at_most =
     let enough : t.numerator * q ≤ ceil_times t q * t.denominator = (ceil_times-IsCeiling t q).enough in
     let scaled : (t.numerator * q) * s.denominator ≤ (ceil_times t q * t.denominator) * s.denominator = mul-le-mul_right s.denominator enough in
-    let value : (s.numerator * t.denominator) * q ≡ (t.numerator * s.denominator) * q = ap (λ n. n * q) e in
+    let value : (s.numerator * t.denominator) * q ≤ (t.numerator * s.denominator) * q = mul-le-mul_right q at_most in
     let product : (s.numerator * q) * t.denominator ≤ (ceil_times t q * s.denominator) * t.denominator = omega arith in
     (ceil_times-IsCeiling s q).least (ceil_times t q) (le_of_mul-le-mul_right product t.positive)
 
 -- ceil(t*q) depends on the value of t alone.
 pub ceil_times-SameValue : (s t : Fraction) (q : ℕ) → SameValue s t → ceil_times s q ≡ ceil_times t q
-ceil_times-SameValue s t q e = omega (arith, ceil_times_below s t q e, ceil_times_below t s q (sym e))
+ceil_times-SameValue s t q e = omega (arith, ceil_times-le s t q (omega arith), ceil_times-le t s q (omega arith))
 
 nat_cmp_scaled : (a b k : ℕ) → 0 < k → nat_cmp (a * k) (b * k) ≡ nat_cmp a b
 nat_cmp_scaled a b k positive =
@@ -70,16 +70,20 @@ nat_cmp_scaled a b k positive =
       | inr (inr more) ↦ let products : b * k < a * k = mul-lt-mul_of_pos_right more positive in grind (arith, nat_tests)
     ]
 
-less_by_value : (s t : Fraction) → compare s t ≡ Less → s.numerator * t.denominator < t.numerator * s.denominator
-less_by_value s t e = ranked (s.numerator * t.denominator) (t.numerator * s.denominator) Less (sym e)
+-- What the order by value says.
+pub less_from_compare : (s t : Fraction) → compare s t ≡ Less → s.numerator * t.denominator < t.numerator * s.denominator
+less_from_compare s t e = ranked (s.numerator * t.denominator) (t.numerator * s.denominator) Less (sym e)
+
+pub compare-less : (s t : Fraction) → s.numerator * t.denominator < t.numerator * s.denominator → compare s t ≡ Less
+compare-less s t less = grind (arith, nat_tests)
 
 -- The order by value is total, and ties exactly fractions of one value.
 pub compare-IsTotalOrder : IsTotalOrder compare
 compare-IsTotalOrder = record {
   antisymm = λ s t. nat_cmp_total.antisymm (s.numerator * t.denominator) (t.numerator * s.denominator);
   trans = λ s t u e f.
-      let first : (s.numerator * t.denominator) * u.denominator < (t.numerator * s.denominator) * u.denominator = mul-lt-mul_of_pos_right (less_by_value s t e) u.positive in
-      let second : (t.numerator * u.denominator) * s.denominator < (u.numerator * t.denominator) * s.denominator = mul-lt-mul_of_pos_right (less_by_value t u f) s.positive in
+      let first : (s.numerator * t.denominator) * u.denominator < (t.numerator * s.denominator) * u.denominator = mul-lt-mul_of_pos_right (less_from_compare s t e) u.positive in
+      let second : (t.numerator * u.denominator) * s.denominator < (u.numerator * t.denominator) * s.denominator = mul-lt-mul_of_pos_right (less_from_compare t u f) s.positive in
       let both : (s.numerator * u.denominator) * t.denominator < (u.numerator * s.denominator) * t.denominator = omega arith in
       let less : s.numerator * u.denominator < u.numerator * s.denominator = lt_of_mul-lt-mul_right t.denominator both in
       grind (arith, nat_tests);
@@ -92,3 +96,31 @@ compare-IsTotalOrder = record {
 
 pub SameValue-from_compare : (s t : Fraction) → compare s t ≡ Equal → SameValue s t
 SameValue-from_compare s t e = ranked (s.numerator * t.denominator) (t.numerator * s.denominator) Equal (sym e)
+
+-- ceil(t*(p*q)) <= p*ceil(t*q).
+pub ceil_times-mul : (t : Fraction) (p q : ℕ) → ceil_times t (p * q) ≤ p * ceil_times t q
+ceil_times-mul t p q =
+    let enough : p * (t.numerator * q) ≤ p * (ceil_times t q * t.denominator) = mul-le-mul_left p (ceil_times-IsCeiling t q).enough in
+    (ceil_times-IsCeiling t (p * q)).least (p * ceil_times t q) (omega arith)
+
+-- ceil(t*q) is t*q where that is whole.
+pub ceil_times-whole : (t : Fraction) (q c : ℕ) → t.numerator * q ≡ c * t.denominator → ceil_times t q ≡ c
+ceil_times-whole t q c whole =
+    let ceiling = ceil_times-IsCeiling t q in
+    let low : c ≤ ceil_times t q = le_of_mul-le-mul_right (omega (arith, ceiling.enough)) t.positive in
+    omega (arith, ceiling.least c (omega arith))
+
+-- ceil((t + k)*q) = ceil(t*q) + k*q.
+pub ceil_times-add : (s t : Fraction) (k q : ℕ) → s.denominator ≡ t.denominator → s.numerator ≡ t.numerator + k * t.denominator
+    → ceil_times s q ≡ ceil_times t q + k * q
+ceil_times-add s t k q same more =
+    let first = ceil_times-IsCeiling s q in
+    let second = ceil_times-IsCeiling t q in
+    let numerators : s.numerator * q ≡ t.numerator * q + k * q * t.denominator = ap (λ n. n * q) more ∙ omega arith in
+    let enough : s.numerator * q ≤ ceil_times s q * t.denominator = subst (λ n. s.numerator * q ≤ ceil_times s q * n) same first.enough in
+    let high : ceil_times s q ≤ ceil_times t q + k * q = first.least (ceil_times t q + k * q) (rw same (omega (arith, second.enough))) in
+    let room : k * q ≤ ceil_times s q = le_of_mul-le-mul_right (omega arith) t.positive in
+    let difference : (ceil_times s q - k * q) + k * q ≡ ceil_times s q = omega arith in
+    let product : ((ceil_times s q - k * q) + k * q) * t.denominator ≡ ceil_times s q * t.denominator = ap (λ n. n * t.denominator) difference in
+    let low : ceil_times t q ≤ ceil_times s q - k * q = second.least (ceil_times s q - k * q) (omega arith) in
+    omega arith
