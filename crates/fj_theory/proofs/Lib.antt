@@ -11,3 +11,4 @@ pub mod Fraction
 pub mod Digits
 pub mod Period
 pub mod Candidates
+pub mod Gaps

@@ -1,5 +1,6 @@
 -- The candidates for jumping numbers: the set C_E of fractions whose pre-period and period have together at most E digits.
-use Rattle.std.specs.Prelude.{◌≡◌, ℕ, ◌+◌, ◌-◌, ◌*◌, ◌^◌, ◌<◌, ◌≤◌, List, All, Any}
+use Rattle.std.specs.Prelude.{◌≡◌, ℕ, ◌+◌, ◌-◌, ◌*◌, ◌^◌, ◌<◌, ◌≤◌, List, [], ◌∷◌, All, Any}
+use Rattle.std.proofs.Common.{lit<}
 use Rattle.std.specs.List.Sorted.{IsStrictlySortedBy}
 use Rattle.fj_theory.specs.Fraction.{Fraction, SameValue, compare}
 
@@ -20,3 +21,17 @@ pub record AreCandidates (p E : ℕ) (ts : List Fraction) : Type 0 where
   pub sound : All (IsCandidate p E) ts
   pub complete : (t : Fraction) → IsCandidate p E t → Any (SameValue t) ts
   pub rising : IsStrictlySortedBy compare ts
+
+-- Two fractions, the lower first.
+pub record Gap : Type 0 where
+  pub lower : Fraction
+  pub upper : Fraction
+
+-- The pairs of neighbours in a list after its first member.
+unfoldable pub neighbours : Fraction → List Fraction → List Gap
+neighbours s [] = []
+neighbours s (t ∷ ts) = record { lower = s; upper = t } ∷ neighbours t ts
+
+-- The gaps of a list of candidates: the pairs of neighbours in 0 and the list.
+unfoldable pub gaps : List Fraction → List Gap
+gaps ts = neighbours (record { numerator = 0; denominator = 1; positive = lit< tt }) ts
