@@ -57,6 +57,14 @@ module _ {A : Type 0} (R : CommutativeRing A) where
   combination-multiples c f [] = sym (mul_zero R f)
   combination-multiples c f (g ∷ L) = ap (λ s. c 0 ⊗ (f ⊗ g) ⊕ s) (combination-multiples (λ j. c (suc j)) f L) ∙ ap (λ s. s ⊕ f ⊗ combination R (λ j. c (suc j)) L) (mul_left_comm R (c 0) f g) ∙ sym (mul_add R f _ _)
 
+  pub multiples-one : (L : List A) → multiples R 𝟙 L ≡ L
+  multiples-one [] = refl
+  multiples-one (g ∷ L) = ap₂ ◌∷◌ (one_mul R g) (multiples-one L)
+
+  pub multiples-multiples : (f g : A) (L : List A) → multiples R f (multiples R g L) ≡ multiples R (f ⊗ g) L
+  multiples-multiples f g [] = refl
+  multiples-multiples f g (h ∷ L) = ap₂ ◌∷◌ (sym (mul_assoc R f g h)) (multiples-multiples f g L)
+
   -- The combination with a list of cofactors, and with a sequence of them.
   pub list_combination-get_or : (cs L : List A) → list_combination R cs L ≡ combination R (λ j. get_or cs j 𝟘) L
   list_combination-get_or [] L = sym (combination-zero L)

@@ -1,5 +1,5 @@
 -- Laws of Frobenius roots. Those of the first section need no parts.
-use Rattle.std.proofs.Common.{ℕ, ◌*◌, List, ◌++◌, All, Contains, map, sym, ap, ◌∙◌, subst}
+use Rattle.std.proofs.Common.{◌≡◌, [], ◌∷◌, ℕ, ◌*◌, ◌+◌, List, ◌++◌, All, Contains, map, sym, ap, ◌∙◌, subst}
 use Rattle.std.proofs.lemmas.List.Elements.{All-map, All-weaker, All-contains, All-contains_itself}
 use Rattle.fj_algebra.specs.Ring.{CommutativeRing}
 use Rattle.fj_algebra.specs.Power.{power}
@@ -10,6 +10,7 @@ use Rattle.fj_algebra.specs.Root.{Root, all_parts}
 use Rattle.fj_algebra.proofs.Lists.{All-map_back, All-flat_map, All-flat_map_back}
 use Rattle.fj_algebra.proofs.Ideal.{Member-sum_over, Member-same, Member-mul, Member-Inside, Inside-refl, Inside-trans, Inside-append, Inside-append_both, Inside-append_left, Inside-append_right, Inside-from, Inside-multiples}
 use Rattle.fj_algebra.proofs.Frobenius.{Member-frobenius_power, Inside-frobenius_power, frobenius_power-1, frobenius_power-append, frobenius_power-frobenius_power, frobenius_power-multiples}
+use Rattle.fj_algebra.proofs.Power.{power-one, power-power, power-add}
 use Rattle.fj_algebra.proofs.Parts.{part-combination, part-power_mul, origin-power}
 
 module _ {A : Type 0} {R : CommutativeRing A} where
@@ -32,6 +33,14 @@ module _ {A : Type 0} {R : CommutativeRing A} where
     -- An ideal equal to a root is the root.
     pub Root-Equal_root : {L M M' : List A} → Equal R M M' → Root R q L M → Root R q L M'
     Root-Equal_root E X = record { inside = Inside-trans X.inside (Inside-frobenius_power F E.forth); least = λ N I. Inside-trans E.back (X.least N I) }
+
+    -- The adjunction: the root is inside (N) exactly where L is inside (N^[q]). The other way is `least`.
+    pub Inside-Root : {L M N : List A} → Root R q L M → Inside R M N → Inside R L (frobenius_power R q N)
+    Inside-Root X I = Inside-trans X.inside (Inside-frobenius_power F I)
+
+    -- Where L' is inside (L^[q]), its root at r q is inside the root of L at r.
+    pub Root-falling : {r : ℕ} {L L' M M' : List A} → Root R r L M → Root R (r * q) L' M' → Inside R L' (frobenius_power R q L) → Inside R M' M
+    Root-falling {r} {L} {L'} {M} {M'} X Y I = Y.least M (subst (Inside R L') (frobenius_power-frobenius_power R r q M) (Inside-trans I (Inside-frobenius_power F X.inside)))
 
     -- The root of a sum is the sum of the roots.
     pub Root-append : {L L' M M' : List A} → Root R q L M → Root R q L' M' → Root R q (L ++ L') (M ++ M')
@@ -107,3 +116,17 @@ module _ {A Residue : Type 0} {R : CommutativeRing A} {q : ℕ} (P : Parts R Res
     least = λ N I. Inside-trans (Inside-multiples f (X.least (all_parts P L) (Inside-from_all_parts (Inside-refl (all_parts P L)))))
         (multiples_inside f L N (All-map_back (Member R (frobenius_power R q N)) (◌⊗◌ (power R f q)) L I.each));
   }
+
+  -- The root of (1) is (1).
+  pub Root-one : Root R q (𝟙 ∷ []) (𝟙 ∷ [])
+  Root-one = subst (λ x. Root R q (x ∷ []) (𝟙 ∷ [])) (power-one R q) (Root-frobenius_power (𝟙 ∷ []))
+
+  -- A factor f^(q m) comes out of the root as f^m.
+  pub Root-power_multiples : (f : A) (m n : ℕ) {M : List A} → Root R q (power R f n ∷ []) M → Root R q (power R f (m * q + n) ∷ []) (multiples R (power R f m) M)
+  Root-power_multiples f m n {M} X =
+      let split : power R (power R f m) q ⊗ power R f n ≡ power R f (m * q + n) = ap (λ x. x ⊗ power R f n) (power-power R f m q) ∙ sym (power-add R f (m * q) n) in
+      subst (λ x. Root R q (x ∷ []) (multiples R (power R f m) M)) split (Root-multiples (power R f m) X)
+
+  -- Where (L^[q]) is inside L', the root of L at r is inside the root of L' at r q.
+  pub Root-rising : {r : ℕ} {L L' M M' : List A} → Root R r L M → Root R (r * q) L' M' → Inside R (frobenius_power R q L) L' → Inside R M M'
+  Root-rising {r} {L} {M' = M'} X Y I = X.least M' (Inside-frobenius_power_back (subst (Inside R (frobenius_power R q L)) (sym (frobenius_power-frobenius_power R r q M')) (Inside-trans I Y.inside)))

@@ -1,1 +1,6 @@
 pub mod Falling
+pub mod Polynomials
+pub mod Merge
+pub mod View
+pub mod Coefficients
+pub mod Push

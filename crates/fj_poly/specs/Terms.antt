@@ -1,17 +1,7 @@
 -- The terms of a polynomial as a list that falls in a monomial order.
 use Rattle.std.specs.Prelude.{◌≡◌, ℕ, ◌<◌, List, [], ◌∷◌, length, map}
-use Rattle.std.specs.Ordering.{nat_cmp}
-use Rattle.std.specs.declared.cmp.Ordering.TheVariants.{Greater}
 use Rattle.fj_coeff.specs.Field.{Field}
-use Rattle.fj_theory.specs.Exponents.{IsExponents}
-use Rattle.fj_theory.specs.MonomialOrder.{compare_by}
 use Rattle.fj_poly.specs.declared.poly.Term.{Term}
-
--- Each term is above the next one.
-abbrev pub IsFalling : (List ℕ → List ℕ) → List (List ℕ × ℕ) → Type 0
-IsFalling key [] = Unit {0}
-IsFalling key (s ∷ []) = Unit {0}
-IsFalling key (s ∷ t ∷ more) = (compare_by key s.0 t.0 ≡ Greater) × IsFalling key (t ∷ more)
 
 -- Each term has eight exponents and a nonzero coefficient of the field.
 abbrev pub AreTerms : Field → List (List ℕ × ℕ) → Type 0

@@ -5,3 +5,10 @@ pub mod Parts
 pub mod Fraction
 pub mod Digits
 pub mod Candidates
+pub mod Ideal
+pub mod FrobeniusPower
+pub mod Root
+pub mod Colon
+pub mod Evaluation
+pub mod RootLaws
+pub mod PointIdeal

@@ -1,0 +1,5 @@
+pub mod Fronts
+pub mod Items
+pub mod KnownBytes
+pub mod Lines
+pub mod Terms
