@@ -3,3 +3,4 @@ pub mod NextDigit
 pub mod SplitPower
 pub mod Expanded
 pub mod Rows
+pub mod Written

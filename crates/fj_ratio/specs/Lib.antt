@@ -3,3 +3,4 @@ pub mod FractionCode
 pub mod RatioLaws
 pub mod ExpansionDigits
 pub mod Multiples
+pub mod ExpansionLaws

@@ -3,6 +3,7 @@
 
 mod candidate_list;
 mod digits;
+pub mod laws;
 mod ratio;
 
 pub use candidate_list::candidates;

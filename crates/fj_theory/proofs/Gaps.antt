@@ -8,14 +8,9 @@ use Rattle.std.specs.List.{AllByRecursion}
 use Rattle.std.specs.List.Sorted.{IsStrictlySortedBy}
 use Rattle.std.proofs.Math.Nat.{mul-le-mul_left}
 use Rattle.fj_theory.specs.Fraction.{Fraction, SameValue, IsInUnitInterval, compare}
-use Rattle.fj_theory.specs.Candidates.{IsCandidate, AreCandidates, Gap, neighbours, gaps}
+use Rattle.fj_theory.specs.Candidates.{IsCandidate, AreCandidates, Gap, IsInside, neighbours, gaps}
 use Rattle.fj_theory.proofs.Fraction.{SameValue-from_compare, compare-IsTotalOrder, compare-less, less_from_compare}
 use Rattle.fj_theory.proofs.Candidates.{IsCandidate-one, IsInUnitInterval-from_candidate}
-
--- t lies strictly between the ends of a gap.
-pub record IsInside (t : Fraction) (gap : Gap) : Type 0 where
-  pub above : compare gap.lower t ≡ Less
-  pub below : compare t gap.upper ≡ Less
 
 Any-cons : {X : Type 0} (P : X → Type 0) (x : X) (xs : List X) → Any P xs → Any P (x ∷ xs)
 Any-cons P x xs h = (h.0 + 1, h.1, omega (arith, h.2), rw add-one h.3, h.4)

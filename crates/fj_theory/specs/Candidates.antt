@@ -2,6 +2,7 @@
 use Rattle.std.specs.Prelude.{◌≡◌, ℕ, ◌+◌, ◌-◌, ◌*◌, ◌^◌, ◌<◌, ◌≤◌, List, [], ◌∷◌, All, Any}
 use Rattle.std.proofs.Common.{lit<}
 use Rattle.std.specs.List.Sorted.{IsStrictlySortedBy}
+use Rattle.std.specs.declared.cmp.Ordering.TheVariants.{Less}
 use Rattle.fj_theory.specs.Fraction.{Fraction, SameValue, compare}
 
 -- t is m/(p^c*(p^b - 1)) in (0, 1], with b >= 1 and b + c <= E.
@@ -26,6 +27,11 @@ pub record AreCandidates (p E : ℕ) (ts : List Fraction) : Type 0 where
 pub record Gap : Type 0 where
   pub lower : Fraction
   pub upper : Fraction
+
+-- The fraction lies strictly between the ends of a gap.
+pub record IsInside (t : Fraction) (gap : Gap) : Type 0 where
+  pub above : compare gap.lower t ≡ Less
+  pub below : compare t gap.upper ≡ Less
 
 -- The pairs of neighbours in a list after its first member.
 unfoldable pub neighbours : Fraction → List Fraction → List Gap
