@@ -1,6 +1,7 @@
 pub mod EighthVariable
 pub mod Exponents
 pub mod MonomialOrder
+pub mod Divisibility
 pub mod Keys
 pub mod Field
 pub mod FormalSum
@@ -8,6 +9,11 @@ pub mod OrderedPolynomials
 pub mod Polynomial
 pub mod Product
 pub mod PolynomialRing
+pub mod Fraction
+pub mod Digits
+pub mod Period
+pub mod Candidates
+pub mod Gaps
 pub mod IdealBridge
 pub mod Ideal
 pub mod Terms

@@ -2,6 +2,9 @@ pub mod Exponents
 pub mod MonomialOrder
 pub mod Polynomial
 pub mod Parts
+pub mod Fraction
+pub mod Digits
+pub mod Candidates
 pub mod Ideal
 pub mod FrobeniusPower
 pub mod Root
