@@ -1,0 +1,3 @@
+pub mod OrderRow
+pub mod Terms
+pub mod PlainCode

@@ -1,0 +1,12 @@
+//! Plain polynomials, their sum and product apart from every monomial order, and certificates.
+#![tactic(auto)]
+
+mod lists;
+mod order_name;
+mod plain;
+mod term;
+
+pub use lists::{Kept, PlainList, PlainPoint, PlainTable};
+pub use order_name::OrderName;
+pub use plain::PlainPoly;
+pub use term::{PlainTerm, TOTAL_LIMIT};
