@@ -3,6 +3,7 @@ use Rattle.std.proofs.Common.{◌≡◌, ℕ, List, [], ◌∷◌, ◌++◌, len
 use Rattle.std.specs.Ordering.{nat_cmp, ordering_reverse}
 use Rattle.std.specs.declared.cmp.Ordering.{Ordering}
 use Rattle.std.specs.declared.cmp.Ordering.TheVariants.{Less, Equal, Greater}
+use Rattle.std.specs.Cmp.{tied_itself}
 use Rattle.fj_coeff.specs.Field.{Field}
 use Rattle.fj_theory.specs.MonomialOrder.{compare_by, IsMonomialOrder}
 use Rattle.fj_theory.proofs.MonomialOrder.{compare_by_total}
@@ -29,9 +30,14 @@ module _ (key : List ℕ → List ℕ) where
   pub above_trans : (a b c : List ℕ) → compare_by key a b ≡ Greater → compare_by key b c ≡ Greater → compare_by key a c ≡ Greater
   above_trans a b c h k = above_from_below c a ((compare_by_total key).trans c b a (below_from_above b c k) (below_from_above a b h))
 
-  falling_tail : (s : List ℕ × ℕ) (ts : List (List ℕ × ℕ)) → IsFalling key (s ∷ ts) → IsFalling key ts
-  falling_tail s [] h = tt
-  falling_tail s (t ∷ ts) h = h.1
+  -- No exponent list is above itself.
+  pub above_itself : (a b : List ℕ) → a ≡ b → compare_by key a b ≡ Greater → ⊥
+  above_itself a b e h = let tied : compare_by key a b ≡ Equal = ap (compare_by key a) (sym e) ∙ tied_itself (compare_by_total key) a in cc
+
+  -- So does a list without its first term.
+  pub falling-tail : (s : List ℕ × ℕ) (ts : List (List ℕ × ℕ)) → IsFalling key (s ∷ ts) → IsFalling key ts
+  falling-tail s [] h = tt
+  falling-tail s (t ∷ ts) h = h.1
 
   -- What follows a term may be replaced by what falls behind it.
   pub falling-replace : (out : List (List ℕ × ℕ)) (s : List ℕ × ℕ) (xs ys : List (List ℕ × ℕ))
@@ -52,7 +58,31 @@ module _ (key : List ℕ → List ℕ) where
   -- A term may be left out.
   pub falling-without : (out : List (List ℕ × ℕ)) (s : List ℕ × ℕ) (xs : List (List ℕ × ℕ))
       → IsFalling key (out ++ s ∷ xs) → IsFalling key (out ++ xs)
-  falling-without [] s xs h = falling_tail s xs h
+  falling-without [] s xs h = falling-tail s xs h
   falling-without (r ∷ []) s [] h = tt
   falling-without (r ∷ []) s (x ∷ xs) h = (above_trans r.0 s.0 x.0 h.0 h.1.0, h.1.1)
   falling-without (r ∷ t ∷ out) s xs h = (h.0, falling-without (t ∷ out) s xs h.1)
+
+  -- A front of a falling list falls.
+  pub falling-front : (xs ys : List (List ℕ × ℕ)) → IsFalling key (xs ++ ys) → IsFalling key xs
+  falling-front [] ys h = tt
+  falling-front (x ∷ []) ys h = tt
+  falling-front (x ∷ t ∷ xs) ys h = (h.0, falling-front (t ∷ xs) ys h.1)
+
+  -- So does a back.
+  pub falling-back : (xs ys : List (List ℕ × ℕ)) → IsFalling key (xs ++ ys) → IsFalling key ys
+  falling-back [] ys h = h
+  falling-back (x ∷ xs) ys h = falling-back xs ys (falling-tail x (xs ++ ys) h)
+
+-- The parts of a list of terms.
+pub terms-front : (F : Field) (xs ys : List (List ℕ × ℕ)) → AreTerms F (xs ++ ys) → AreTerms F xs
+terms-front F [] ys h = tt
+terms-front F (x ∷ xs) ys h = (h.0, terms-front F xs ys h.1)
+
+pub terms-back : (F : Field) (xs ys : List (List ℕ × ℕ)) → AreTerms F (xs ++ ys) → AreTerms F ys
+terms-back F [] ys h = h
+terms-back F (x ∷ xs) ys h = terms-back F xs ys h.1
+
+pub terms-append : (F : Field) (xs ys : List (List ℕ × ℕ)) → AreTerms F xs → AreTerms F ys → AreTerms F (xs ++ ys)
+terms-append F [] ys h k = k
+terms-append F (x ∷ xs) ys h k = (h.0, terms-append F xs ys h.1 k)

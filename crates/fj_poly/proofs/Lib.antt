@@ -1,2 +1,4 @@
 pub mod Falling
 pub mod Polynomials
+pub mod Merge
+pub mod Coefficients

@@ -6,3 +6,7 @@ pub mod FormalSum
 pub mod Polynomial
 pub mod Product
 pub mod PolynomialRing
+pub mod Terms
+pub mod Monomial
+pub mod Frobenius
+pub mod Residues

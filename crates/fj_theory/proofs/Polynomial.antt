@@ -3,7 +3,7 @@ use Rattle.std.proofs.Common.{◌≡◌, ℕ, ◌<◌, Bool, true, false, cond, 
 use Rattle.std.specs.List.{list_any}
 use Rattle.std.specs.Cmp.Lexicographic.{slice_cmp}
 use Rattle.std.specs.FinMap.{get, insert, empty, get-empty, get-insert, same_map, contains_key-keys}
-use Rattle.std.proofs.lemmas.Bool.{true≢false, eqb-false, or_parts}
+use Rattle.std.proofs.lemmas.Bool.{true≢false, eqb-false, or_parts, true_from_ne_false}
 use Rattle.std.proofs.lemmas.Cmp.{nat_list_cmp_total, eq_by_cmp_equiv}
 use Rattle.std.proofs.lemmas.Option.{none-some, same_Some}
 use Rattle.std.proofs.lemmas.Map.Lookups.{exact_bytes}
@@ -72,6 +72,9 @@ support_found f a h = by (get f a) (contains_key-keys f a ∙ h)
     by None h = absurd (true≢false (sym h))
     by (Some c) h = refl
 
+pub support_listed : (f : Polynomial) (a : List ℕ) → 0 < coefficient f a → list_any (same a) (support f) ≡ true
+support_listed f a h = true_from_ne_false _ (λ e. let z = coefficient_outside f a e in absurd (omega arith))
+
 -- What holds of each element of a list holds of what is the same as one.
 pub All_same : (P : List ℕ → Type 0) (L : List (List ℕ)) (a : List ℕ) → All P L → list_any (same a) L ≡ true → P a
 All_same P L a all h = All-contains P L a all ((is_member-Decides same-Decides L a).0 h)
@@ -138,6 +141,15 @@ module _ (c : List ℕ → ℕ) where
       let n = eqb-false (c a) 0 e in
       (refl, v, omega arith)
   found_some a d false r e s = absurd (none-some d s)
+
+  -- The support is among the listed exponent lists.
+  pub support-with_coefficients : (P : List ℕ → Type 0) (L : List (List ℕ)) → All P L → All P (support (with_coefficients c L))
+  unfolding found
+  support-with_coefficients P L all =
+      let f : Polynomial = with_coefficients c L in
+      All-weaker (λ a. list_any (same a) (support f) ≡ true) P
+      (λ a h. All_same P L a all (found_some a (coefficient f a) (list_any (same a) L) (c a == 0) refl (sym (get_found a L) ∙ support_found f a h)).0)
+      (support f) (All-is_member (eq_by_cmp_equiv nat_list_cmp_total) (support f))
 
   pub IsPolynomial-with_coefficients : {F : Field} (L : List (List ℕ)) → All IsExponents L → All (λ a. c a < F.size) L → IsPolynomial F (with_coefficients c L)
   unfolding found

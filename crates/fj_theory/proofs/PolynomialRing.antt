@@ -35,7 +35,7 @@ over_equal {F} f g e =
 
 module _ {F : Field} (L : IsField F) where
   -- Polynomials with the same formal coefficients are equal.
-  from_terms : {f g : Polynomial} → IsPolynomial F f → IsPolynomial F g → ((a : List ℕ) → coefficient_in (K L) (terms L f) a ≡ coefficient_in (K L) (terms L g) a) → f ≡ g
+  pub from_terms : {f g : Polynomial} → IsPolynomial F f → IsPolynomial F g → ((a : List ℕ) → coefficient_in (K L) (terms L f) a ≡ coefficient_in (K L) (terms L g) a) → f ≡ g
   from_terms {f} {g} P Q e =
       polynomial_equal P Q (λ a A. sym (rank_element L _ (coefficient_below P (zero_below L) a))
       ∙ ap (λ x. x.rank) (sym (coefficient_in-terms L f a) ∙ e a ∙ coefficient_in-terms L g a) ∙ rank_element L _ (coefficient_below Q (zero_below L) a))
@@ -70,14 +70,14 @@ module _ {F : Field} (L : IsField F) where
       by false = element_zero L
 
   -- The weights by which the laws of the product are compared: the terms that meet a given one, and those that meet a list.
-  meets : List ℕ → List ℕ → Element F → List ℕ → Element F → Element F
+  unfoldable pub meets : List ℕ → List ℕ → Element F → List ℕ → Element F → Element F
   meets a b x c y = at_exponents (K L) a (plus b c) ((K L).mul x y)
 
-  meets_right-IsAdditive : (a b : List ℕ) (x : Element F) → IsAdditive (K L) (K L) (meets a b x)
+  pub meets_right-IsAdditive : (a b : List ℕ) (x : Element F) → IsAdditive (K L) (K L) (meets a b x)
   unfolding meets
   meets_right-IsAdditive a b x = record { keeps_add = λ c y z. ap (at_exponents (K L) a (plus b c)) ((K L).mul_add x y z) ∙ (at_exponents-IsAdditive (K L) a).keeps_add (plus b c) _ _ }
 
-  meets_left-IsAdditive : (a : List ℕ) (fs : FormalSum (Element F)) → IsAdditive (K L) (K L) (λ b x. sum_over (K L) (λ d. meets a b x d.0 d.1) fs)
+  pub meets_left-IsAdditive : (a : List ℕ) (fs : FormalSum (Element F)) → IsAdditive (K L) (K L) (λ b x. sum_over (K L) (λ d. meets a b x d.0 d.1) fs)
   unfolding meets
   meets_left-IsAdditive a fs = record {
     keeps_add = λ b x y.

@@ -3,7 +3,7 @@ use Rattle.std.proofs.Common.{◌≡◌, ℕ, ◌<◌, Bool, true, false, cond, 
 use Rattle.std.specs.List.{list_any}
 use Rattle.std.specs.Ordering.{ordering_reverse}
 use Rattle.std.specs.Cmp.Lexicographic.{slice_cmp}
-use Rattle.std.specs.FinMap.{entries, entries_sorted, find, is_sorted, get-entries}
+use Rattle.std.specs.FinMap.{get, entries, entries_sorted, find, is_sorted, get-entries}
 use Rattle.std.specs.FinMap.Entries.{below_all}
 use Rattle.std.proofs.lemmas.Bool.{true≢false, or_parts}
 use Rattle.std.proofs.lemmas.Cmp.{nat_list_cmp_total}
@@ -32,19 +32,19 @@ is_lt-Less Less h = refl
 is_lt-Less Equal h = absurd h
 is_lt-Less Greater h = absurd h
 
-T_left : (a b : Bool) → T (a && b) → T a
+pub T_left : (a b : Bool) → T (a && b) → T a
 T_left true b h = tt
 T_left false b h = absurd h
 
-T_right : (a b : Bool) → T (a && b) → T b
+pub T_right : (a b : Bool) → T (a && b) → T b
 T_right true b h = h
 T_right false b h = absurd h
 
-All_above : {X : Type 0} (x : List ℕ) (es : List (List ℕ × X)) → T (below_all (slice_cmp nat_cmp) x es) → All (λ e. slice_cmp nat_cmp x e.0 ≡ Less) es
+pub All_above : {X : Type 0} (x : List ℕ) (es : List (List ℕ × X)) → T (below_all (slice_cmp nat_cmp) x es) → All (λ e. slice_cmp nat_cmp x e.0 ≡ Less) es
 All_above x [] h = All-nil (λ e. slice_cmp nat_cmp x e.0 ≡ Less)
 All_above x (e ∷ es) h = All-cons (λ d. slice_cmp nat_cmp x d.0 ≡ Less) e es (is_lt-Less _ (T_left _ _ h)) (All_above x es (T_right _ _ h))
 
-below_not_same : (x y : List ℕ) → slice_cmp nat_cmp x y ≡ Less → same x y ≡ false
+pub below_not_same : (x y : List ℕ) → slice_cmp nat_cmp x y ≡ Less → same x y ≡ false
 below_not_same x y l = ap is_eq l
 
 below_not_same_back : (x y : List ℕ) → slice_cmp nat_cmp x y ≡ Less → same y x ≡ false
@@ -59,10 +59,13 @@ entries_found {X} (e ∷ es) h =
     All-cons Found e es (ap (λ t. cond t (Some e.1) (find (slice_cmp nat_cmp) e.0 es)) (same_itself e.0))
     (λ k d g. ap (λ t. cond t (Some e.1) (find (slice_cmp nat_cmp) (get_or es k d).0 es)) (below_not_same_back e.0 (get_or es k d).0 (above k d g)) ∙ rest k d g)
 
--- Each entry's coefficient is the polynomial's there.
+-- Each entry is found, and its coefficient is the polynomial's there.
+pub entries_get : (f : Polynomial) → All (λ e. get f e.0 ≡ Some e.1) (entries f)
+entries_get f k d h = get-entries f (get_or (entries f) k d).0 ∙ entries_found (entries f) (entries_sorted f) k d h
+
 pub entries_coefficients : (f : Polynomial) → All (λ e. coefficient f e.0 ≡ e.1) (entries f)
 unfolding coefficient
-entries_coefficients f k d h = ap (λ o. unwrap_or o 0) (get-entries f (get_or (entries f) k d).0 ∙ entries_found (entries f) (entries_sorted f) k d h)
+entries_coefficients f k d h = ap (λ o. unwrap_or o 0) (entries_get f k d h)
 
 module _ {F : Field} (L : IsField F) where
   abbrev pub K : CommutativeRing (Element F)
@@ -118,7 +121,7 @@ module _ {A B : Type 0} (R : CommutativeRing A) (S : CommutativeRing B) (w : Lis
       sum_over-flat_map S (λ p. w p.0 p.1) (λ e. map (λ d. (plus e.0 d.0, R.mul e.1 d.1)) fs) es
       ∙ sum_over-same S _ _ (λ e. sum_over-map S (λ p. w p.0 p.1) (λ d. (plus e.0 d.0, R.mul e.1 d.1)) fs) es
 
-abbrev exponents_of : {A : Type 0} → FormalSum A → List (List ℕ)
+abbrev pub exponents_of : {A : Type 0} → FormalSum A → List (List ℕ)
 exponents_of es = map (λ e. e.0) es
 
 exponents_of-row : {A : Type 0} (b : List ℕ) (f : A → A) (fs : FormalSum A) → exponents_of (map {B = List ℕ × A} (λ (d : List ℕ × A). (plus b d.0, f d.1)) fs) ≡ map (plus b) (exponents_of fs)
@@ -162,7 +165,7 @@ module _ {F : Field} (L : IsField F) where
   mul_cond false x y = sym (mul_zero (K L) x)
 
   -- One term's part of the coefficient of a product.
-  row_coefficient : {a b : List ℕ} (x : Element F) (fs : FormalSum (Element F)) → IsExponents a → IsExponents b → All (λ d. IsExponents d.0) fs
+  pub row_coefficient : {a b : List ℕ} (x : Element F) (fs : FormalSum (Element F)) → IsExponents a → IsExponents b → All (λ d. IsExponents d.0) fs
       → sum_over (K L) (λ d. at_exponents (K L) a (plus b d.0) ((K L).mul x d.1)) fs ≡ cond (divides b a) ((K L).mul x (coefficient_in (K L) fs (minus a b))) (K L).zero
   row_coefficient {a} {b} x fs A B all = by (divides b a) refl
     where

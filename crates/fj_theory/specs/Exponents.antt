@@ -1,5 +1,5 @@
 -- Exponent lists of monomials in eight variables.
-use Rattle.std.specs.Prelude.{◌≡◌, ℕ, ◌+◌, ◌*◌, ◌-◌, ◌&&◌, Bool, true, false, nat_le, List, [], ◌∷◌, length, map, sum}
+use Rattle.std.specs.Prelude.{◌≡◌, ℕ, ◌+◌, ◌*◌, ◌-◌, ◌/◌, ◌%◌, ◌&&◌, Bool, true, false, nat_le, List, [], ◌∷◌, length, map, sum}
 
 -- An exponent list: one number for each of the eight variables.
 pub record IsExponents (a : List ℕ) : Type 0 where
@@ -34,3 +34,10 @@ unfoldable pub minus : List ℕ → List ℕ → List ℕ
 minus [] b = []
 minus (x ∷ a) [] = []
 minus (x ∷ a) (y ∷ b) = (x - y) ∷ minus a b
+
+-- The quotient and the residue of a monomial by q-th powers: a = q * quotient + residue, the residue's entries below q.
+unfoldable pub quotient_by : ℕ → List ℕ → List ℕ
+quotient_by q a = map (λ k. k / q) a
+
+unfoldable pub residue_by : ℕ → List ℕ → List ℕ
+residue_by q a = map (λ k. k % q) a

@@ -1,11 +1,13 @@
 -- Polynomials in eight variables over a field on ranks, as finite maps from exponent lists to nonzero coefficients.
-use Rattle.std.specs.Prelude.{◌≡◌, ℕ, zero, suc, ◌<◌, ◌==◌, if◌then◌else◌, List, [], ◌∷◌, ◌++◌, map, unwrap_or, Some}
-use Rattle.std.specs.Ordering.{nat_cmp}
-use Rattle.std.specs.List.{flat_map}
+use Rattle.std.specs.Prelude.{◌≡◌, ℕ, zero, suc, ◌<◌, ◌==◌, if◌then◌else◌, List, [], ◌∷◌, ◌++◌, map, unwrap_or, Option, Some, max}
+use Rattle.std.specs.Ordering.{nat_cmp, is_gt}
+use Rattle.std.specs.declared.cmp.Ordering.TheVariants.{Greater}
+use Rattle.std.specs.List.{flat_map, reduce}
 use Rattle.std.specs.Cmp.Lexicographic.{slice_cmp}
-use Rattle.std.specs.FinMap.{FinMap, get, insert, empty, keys}
+use Rattle.std.specs.FinMap.{FinMap, get, insert, empty, keys, entries}
 use Rattle.fj_coeff.specs.Field.{Field}
-use Rattle.fj_theory.specs.Exponents.{IsExponents, origin, plus, minus, divides}
+use Rattle.fj_theory.specs.Exponents.{IsExponents, origin, plus, minus, divides, total}
+use Rattle.fj_theory.specs.MonomialOrder.{compare_by}
 
 -- A finite map from exponent lists to coefficients.
 abbrev pub Polynomial : Type 0
@@ -16,6 +18,12 @@ pub record IsPolynomial (F : Field) (f : Polynomial) : Type 0 where
   pub exponents : (a : List ℕ) (c : ℕ) → get f a ≡ Some c → IsExponents a
   pub nonzero : (a : List ℕ) (c : ℕ) → get f a ≡ Some c → 0 < c
   pub below : (a : List ℕ) (c : ℕ) → get f a ≡ Some c → c < F.size
+
+-- A term of a polynomial: eight exponents, and a coefficient of the field that is not zero.
+pub record IsTerm (F : Field) (t : List ℕ × ℕ) : Type 0 where
+  pub exponents : IsExponents t.0
+  pub nonzero : 0 < t.1
+  pub below : t.1 < F.size
 
 -- The coefficient at an exponent list, 0 where the polynomial has no such term.
 unfoldable pub coefficient : Polynomial → List ℕ → ℕ
@@ -60,3 +68,27 @@ product F f g = with_coefficients (convolution F f g) (flat_map (λ b. map (plus
 unfoldable pub power : Field → Polynomial → ℕ → Polynomial
 power F f zero = term 1 origin
 power F f (suc k) = product F f (power F f k)
+
+-- A term is put in its place in a falling list of terms.
+unfoldable pub place : (List ℕ → List ℕ) → List ℕ × ℕ → List (List ℕ × ℕ) → List (List ℕ × ℕ)
+place key t [] = t ∷ []
+place key t (u ∷ more) = if is_gt (compare_by key t.0 u.0) then t ∷ u ∷ more else u ∷ place key t more
+
+-- The terms of a list, falling in the order of the key.
+unfoldable pub sort_falling : (List ℕ → List ℕ) → List (List ℕ × ℕ) → List (List ℕ × ℕ)
+sort_falling key [] = []
+sort_falling key (t ∷ ts) = place key t (sort_falling key ts)
+
+-- The terms of a polynomial, falling in the order of the key.
+unfoldable pub terms_falling : (List ℕ → List ℕ) → Polynomial → List (List ℕ × ℕ)
+terms_falling key f = sort_falling key (entries f)
+
+-- Each term's exponent list is greater than the next one's.
+abbrev pub IsFalling : (List ℕ → List ℕ) → List (List ℕ × ℕ) → Type 0
+IsFalling key [] = Unit {0}
+IsFalling key (t ∷ []) = Unit {0}
+IsFalling key (t ∷ u ∷ more) = (compare_by key t.0 u.0 ≡ Greater) × IsFalling key (u ∷ more)
+
+-- The degree: the greatest total of a term, and none for the zero polynomial.
+unfoldable pub degree : Polynomial → Option ℕ
+degree f = reduce max (map total (support f))
