@@ -1,3 +1,4 @@
 pub mod OrderRow
 pub mod Terms
 pub mod PlainCode
+pub mod Tallied

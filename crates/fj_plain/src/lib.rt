@@ -4,6 +4,7 @@
 mod lists;
 mod order_name;
 mod plain;
+mod tally;
 mod term;
 
 pub use lists::{Kept, PlainList, PlainPoint, PlainTable};

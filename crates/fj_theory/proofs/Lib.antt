@@ -10,3 +10,4 @@ pub mod Terms
 pub mod Monomial
 pub mod Frobenius
 pub mod Residues
+pub mod Plain

@@ -1,0 +1,2 @@
+pub mod TalliedLemmas
+pub mod Raised
