@@ -1,2 +1,3 @@
 pub mod TalliedLemmas
 pub mod Raised
+pub mod NonzeroEntries

@@ -1,14 +1,15 @@
-ghost use Rattle.std.specs.Prelude.{◌≡◌, ◌<◌, ◌↔◌, ◌+◌, ◌%◌, ◌^◌, ℕ, List, All, Contains, IsTrue, OnOk, if◌then◌else◌};
+ghost use Rattle.std.specs.Prelude.{◌≡◌, ◌<◌, ◌↔◌, ◌+◌, ◌%◌, ◌^◌, ℕ, List, All, Contains, IfOk, IsTrue, OnOk, if◌then◌else◌};
 ghost use Rattle.std.specs.Ordering.{nat_cmp, eq_by_cmp};
 ghost use Rattle.std.specs.BTreeMap.{IsOrdered, values};
 ghost use Rattle.std.specs.Cmp.Lexicographic.{slice_cmp};
-ghost use Rattle.fj_plain.specs.Tallied.{rank_at};
+ghost use Rattle.fj_plain.specs.Tallied.{rank_at, nonzero_entries};
+ghost use Rattle.fj_plain.specs.Terms.{entries};
 ghost use Rattle.std.specs.FinMap.{empty};
 ghost use Rattle.fj_coeff.specs.Field.{primes};
 ghost use Rattle.fj_coeff.specs.PrimeField.{prime_field};
 ghost use Rattle.fj_theory.specs.Exponents.{plus, times};
 ghost use Rattle.fj_theory.specs.Polynomial.{IsPolynomial, sum, product, power, term};
-ghost use Rattle.fj_theory.specs.Plain.{polynomial, HasRanksBelow};
+ghost use Rattle.fj_theory.specs.Plain.{polynomial, rising_terms, HasRanksBelow};
 
 use crate::plain::PlainPoly;
 use crate::term::PlainTerm;
@@ -83,6 +84,14 @@ impl Tally {
         Ok(())
     }
 
+    /// The terms, by rising exponents in Lex.
+    pub(crate) fn terms(&self, alloc: Global) -> Result<Vec<PlainTerm>, AllocError>
+        requires { All (λ t. All (λ k. k < 2 ^ 64) t.0) (rising_terms self.now) }
+        ensures { IfOk result (λ v. entries v.items ≡ rising_terms self.now) }
+    {
+        nonzero_terms(alloc, &self.ranks)
+    }
+
     /// Whether the sum is zero.
     pub(crate) fn is_zero(&self) -> bool
         ensures { IsTrue result ↔ (self.now ≡ empty) }
@@ -103,6 +112,32 @@ fn add_rank(ranks: &mut Ranks, p: u64, exps: [u128; 8], rank: u64) -> Result<(),
     }
     ranks.insert(exps, rank % p)?;
     Ok(())
+}
+
+// The terms whose ranks aren't zero, in order.
+fn nonzero_terms(alloc: Global, ranks: &Ranks) -> Result<Vec<PlainTerm>, AllocError>
+    requires { (a : List ℕ) → 0 < rank_at ranks.now a → All (λ k. k < 2 ^ 64) a }
+    ensures terms { IfOk result (λ v. entries v.items ≡ nonzero_entries ranks.now.entries) }
+    ensures ordered { IsOrdered (slice_cmp nat_cmp) ranks.now }
+{
+    let mut terms = Vec::new(alloc);
+    for (exps, rank) in ranks.iter() {
+        if *rank > 0 {
+            terms.push(PlainTerm {
+                exps: narrowed(*exps),
+                rank: *rank,
+            })?;
+        }
+    }
+    Ok(terms)
+}
+
+// The same exponents, which fit.
+fn narrowed(exps: [u128; 8]) -> [u64; 8]
+    requires { All (λ k. k < 2 ^ 64) exps }
+    ensures { result ≡ exps }
+{
+    array::from_fn(|k| exps[k] as u64)
 }
 
 // Whether each rank is zero.
