@@ -7,8 +7,8 @@ ghost use Rattle.fj_plain.specs.Terms.{entries};
 ghost use Rattle.std.specs.FinMap.{empty};
 ghost use Rattle.fj_coeff.specs.Field.{primes};
 ghost use Rattle.fj_coeff.specs.PrimeField.{prime_field};
-ghost use Rattle.fj_theory.specs.Exponents.{plus, times};
-ghost use Rattle.fj_theory.specs.Polynomial.{IsPolynomial, sum, product, power, term};
+ghost use Rattle.fj_theory.specs.Exponents.{origin, plus, times};
+ghost use Rattle.fj_theory.specs.Polynomial.{IsPolynomial, sum, product, power, term, negation};
 ghost use Rattle.fj_theory.specs.Plain.{polynomial, rising_terms, HasRanksBelow};
 
 use crate::plain::PlainPoly;
@@ -29,8 +29,8 @@ pub(crate) struct Tally {
 impl Model for Tally {
     ghost use Rattle.std.specs.Coded.{coded_list, coded_ℕ};
     ghost use Rattle.std.specs.FinMap.{code};
-    ghost use Rattle.fj_theory.specs.Exponents.{plus, times};
-ghost use Rattle.fj_theory.specs.Polynomial.{Polynomial};
+    ghost use Rattle.fj_theory.specs.Exponents.{origin, plus, times};
+    ghost use Rattle.fj_theory.specs.Polynomial.{Polynomial};
     ghost use Rattle.fj_plain.specs.Tallied.{tallied};
 
     ghost Value = { Polynomial };
@@ -80,6 +80,45 @@ impl Tally {
             let t = f.get(i);
             let exps = raised(factor.exps, q, t.exps);
             self.add_term(p, exps, factor.rank * t.rank % p)?;
+        }
+        Ok(())
+    }
+
+    /// Adds a polynomial.
+    pub(crate) fn add(&mut self, p: u64, f: &PlainPoly) -> Result<(), AllocError>
+        requires prime { Contains primes p }
+        requires below { HasRanksBelow p f.now }
+        requires over { IsPolynomial (prime_field p) self.old }
+        ensures { OnOk result (self.new ≡ sum (prime_field p) self.old (polynomial f.now)) }
+    {
+        self.add_multiple(p, 0, 1, &constant(1), f)
+    }
+
+    /// Subtracts a polynomial.
+    pub(crate) fn subtract(&mut self, p: u64, f: &PlainPoly) -> Result<(), AllocError>
+        requires prime { Contains primes p }
+        requires below { HasRanksBelow p f.now }
+        requires over { IsPolynomial (prime_field p) self.old }
+        ensures { OnOk result (self.new ≡ sum (prime_field p) self.old (negation (prime_field p) (polynomial f.now))) }
+    {
+        self.add_multiple(p, 0, 1, &constant(p - 1), f)
+    }
+
+    /// Adds the product of two polynomials.
+    pub(crate) fn add_product(
+        &mut self,
+        p: u64,
+        f: &PlainPoly,
+        g: &PlainPoly,
+    ) -> Result<(), AllocError>
+        requires prime { Contains primes p }
+        requires first { HasRanksBelow p f.now }
+        requires second { HasRanksBelow p g.now }
+        requires over { IsPolynomial (prime_field p) self.old }
+        ensures { OnOk result (self.new ≡ sum (prime_field p) self.old (product (prime_field p) (polynomial f.now) (polynomial g.now))) }
+    {
+        for i in 0..f.len() {
+            self.add_multiple(p, 0, 1, f.get(i), g)?;
         }
         Ok(())
     }
@@ -146,6 +185,15 @@ fn are_zero(ranks: &Ranks) -> bool
     ensures ordered { IsOrdered (slice_cmp nat_cmp) ranks.now }
 {
     ranks.values().all(|rank| *rank == 0)
+}
+
+// A rank times the monomial 1.
+#[tactic(auto, unfolding(fj_theory::specs::Exponents::origin))]
+fn constant(rank: u64) -> PlainTerm
+    ensures exps { result.exps ≡ origin }
+    ensures rank { result.rank ≡ rank }
+{
+    PlainTerm { exps: [0; 8], rank }
 }
 
 // The exponents of a term with exponents a times the q-th power of a term with exponents b.

@@ -11,3 +11,4 @@ pub mod Monomial
 pub mod Frobenius
 pub mod Residues
 pub mod Plain
+pub mod PlainProduct

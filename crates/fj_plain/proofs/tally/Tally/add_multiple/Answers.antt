@@ -21,9 +21,9 @@ loop-i-preserved c =
     let A : IsExponents c.args.factor.now.exps = record { eight = c.args.factor.now.eight } in
     let rank = c.args.factor.now.rank * c.get-t.result.now.rank % c.args.p in
     let more = multiple_more c.requires.prime c.args.e c.args.factor.now.rank c.requires.factor A c.args.f.now c.requires.below c.loop-i.i (entry c.get-t.result.now) c.get-t.ensures
-        c.loop-i.self c.add_term.new.self _ c.loop-i.invariant.over c.loop-i.invariant.whole
-        (c.in_ok-add_term.ensures ∙ ap (λ b. sum (prime_field c.args.p) c.loop-i.self (term rank b))
-        (c.raised-exps.ensures ∙ ap (λ q. plus c.args.factor.now.exps (times q c.get-t.result.now.exps)) c.requires.power)) in
+    c.loop-i.self c.add_term.new.self _ c.loop-i.invariant.over c.loop-i.invariant.whole
+    (c.in_ok-add_term.ensures ∙ ap (λ b. sum (prime_field c.args.p) c.loop-i.self (term rank b))
+    (c.raised-exps.ensures ∙ ap (λ q. plus c.args.factor.now.exps (times q c.get-t.result.now.exps)) c.requires.power)) in
     record { over = more.0; whole = more.1 }
 
 pub returns : goal.returns
