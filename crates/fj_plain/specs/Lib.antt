@@ -2,3 +2,4 @@ pub mod OrderRow
 pub mod Terms
 pub mod PlainCode
 pub mod Tallied
+pub mod Holds

@@ -2,6 +2,8 @@
 #![tactic(auto)]
 
 mod arithmetic;
+mod cert;
+mod identity;
 mod lists;
 mod order_name;
 mod plain;
@@ -9,6 +11,7 @@ mod tally;
 mod term;
 
 pub use arithmetic::{plain_product, plain_sum};
+pub use cert::{Cert, holds};
 pub use lists::{Kept, PlainList, PlainPoint, PlainTable};
 pub use order_name::OrderName;
 pub use plain::PlainPoly;

@@ -1,4 +1,5 @@
-ghost use Rattle.std.specs.Prelude.{◌≡◌, ◌<◌, length, slice_get, Some};
+ghost use Rattle.std.specs.Prelude.{◌≡◌, ◌<◌, ◌↔◌, length, slice_get, IsTrue, Some};
+ghost use Rattle.fj_theory.specs.Certificate.{AllRanksBelow, AllRowsBelow};
 
 use crate::order_name::OrderName;
 use crate::plain::PlainPoly;
@@ -47,6 +48,20 @@ impl PlainList {
     }
 }
 
+impl PlainList {
+    /// Whether all ranks are those of coefficients in GF(p).
+    pub(crate) fn have_ranks_below(&self, p: u64) -> bool
+        ensures { IsTrue result ↔ AllRanksBelow p self.now }
+    {
+        for i in 0..self.len() {
+            if !self.get(i).has_ranks_below(p) {
+                return false;
+            }
+        }
+        true
+    }
+}
+
 /// A table of plain polynomials, by rows.
 #[derive(Debug, Drop)]
 pub struct PlainTable {
@@ -87,6 +102,20 @@ impl PlainTable {
         ensures { slice_get self.now i ≡ Some result.now }
     {
         &self.rows[i]
+    }
+}
+
+impl PlainTable {
+    /// Whether all ranks are those of coefficients in GF(p).
+    pub(crate) fn have_ranks_below(&self, p: u64) -> bool
+        ensures { IsTrue result ↔ AllRowsBelow p self.now }
+    {
+        for i in 0..self.len() {
+            if !self.get(i).have_ranks_below(p) {
+                return false;
+            }
+        }
+        true
     }
 }
 

@@ -1,5 +1,6 @@
 ghost use Rattle.std.specs.Prelude.{◌≡◌, ◌≢◌, ◌<◌, ◌≤◌, ◌^◌, ◌↔◌, length, sum, slice_get, All, AllPairs, IfSome, IsSome, IsTrue, Some};
-ghost use Rattle.fj_theory.specs.Plain.{IsPlain};
+ghost use Rattle.fj_theory.specs.Plain.{IsPlain, HasRanksBelow};
+ghost use Rattle.fj_theory.specs.Certificate.{IsResidue};
 ghost use Rattle.fj_plain.specs.Terms.{entry, entries};
 
 use crate::term::PlainTerm;
@@ -40,4 +41,28 @@ impl PlainPoly {
     {
         &self.terms[i]
     }
+
+    /// Whether all ranks are those of coefficients in GF(p).
+    pub(crate) fn has_ranks_below(&self, p: u64) -> bool
+        ensures { IsTrue result ↔ HasRanksBelow p self.now }
+    {
+        are_below(&self.terms, p)
+    }
+
+    /// Whether the polynomial is one term of rank 1 with exponents below q.
+    pub(crate) fn is_residue(&self, q: u64) -> bool
+        ensures { IsTrue result ↔ IsResidue q self.now }
+    {
+        match self.terms.as_slice() {
+            [term] => term.rank == 1 && term.exps.iter().all(|k| *k < q),
+            _ => false,
+        }
+    }
+}
+
+// Whether all ranks are below p.
+fn are_below(terms: &[PlainTerm], p: u64) -> bool
+    ensures { IsTrue result ↔ All (λ t. t.rank < p) terms.now }
+{
+    terms.iter().all(|term| term.rank < p)
 }

@@ -12,3 +12,4 @@ pub mod Frobenius
 pub mod Residues
 pub mod Plain
 pub mod PlainProduct
+pub mod Certificate
