@@ -34,3 +34,6 @@ pub mod Degree
 pub mod TermMaps
 pub mod RootParts
 pub mod TermLists
+pub mod Plain
+pub mod PlainProduct
+pub mod Certificate

@@ -13,3 +13,5 @@ pub mod Evaluation
 pub mod RootLaws
 pub mod PointIdeal
 pub mod PolynomialLaws
+pub mod Plain
+pub mod Certificate
