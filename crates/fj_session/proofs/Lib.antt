@@ -11,3 +11,5 @@ pub mod Places
 pub mod TermLoop
 pub mod Terms
 pub mod Texts
+pub mod AnswerTexts
+pub mod Declared

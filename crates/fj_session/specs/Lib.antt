@@ -4,3 +4,4 @@ pub mod Memory
 pub mod Outside
 pub mod Reading
 pub mod Text
+pub mod Answer

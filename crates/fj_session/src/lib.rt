@@ -1,6 +1,7 @@
 //! Sessions: what is read, what is answered, and what is written.
 #![tactic(auto)]
 
+mod answer;
 mod form;
 mod input;
 pub mod outside;

@@ -1,5 +1,5 @@
 //! Terms of a sum, as they are read.
-ghost use Rattle.std.specs.Prelude.{◌≡◌, ◌↔◌, ◌+◌, ◌<◌, ◌≤◌, sum, replicate, slice_index, slice_set, IsNone, IfSome};
+ghost use Rattle.std.specs.Prelude.{length, ◌≡◌, ◌↔◌, ◌+◌, ◌<◌, ◌≤◌, sum, replicate, slice_index, slice_set, IsNone, IfSome};
 
 /// The most that the exponents of a term add up to.
 const MAX_DEGREE: u64 = 1000;
@@ -9,6 +9,7 @@ const MAX_DEGREE: u64 = 1000;
 pub struct Term {
     pub coefficient: u64,
     pub exponents: [u64; 8],
+    pub ghost eight: { length exponents ≡ 8 },
     pub ghost degree_small: { sum exponents ≤ 1000 },
 }
 
