@@ -3,7 +3,7 @@ ghost use Rattle.fj_theory.specs.Plain.{IsPlain, HasRanksBelow};
 ghost use Rattle.fj_theory.specs.Certificate.{IsResidue};
 ghost use Rattle.fj_plain.specs.Terms.{entry, entries};
 
-use crate::term::PlainTerm;
+use crate::term::{PlainTerm, TOTAL_LIMIT};
 use std::marker::Model;
 
 /// A polynomial over a field GF(p) that isn't named here, as a list of terms in any order: no total is above 2^41, no
@@ -27,6 +27,22 @@ impl Model for PlainPoly {
 }
 
 impl PlainPoly {
+    /// The polynomial with these terms, in this order, whose ranks are those of coefficients in GF(p). `None` exactly
+    /// where a total is above 2^41, two terms have the same exponents, or a rank is 0 or at least p.
+    pub fn of(terms: Vec<PlainTerm>, p: u64) -> Option<PlainPoly>
+        ensures plain { IsSome result ↔ (IsPlain (entries terms.items) × All (λ t. t.rank < p) terms.items) }
+        ensures same { IfSome result (λ f. f.terms ≡ entries terms.items) }
+        ensures below { IfSome result (HasRanksBelow p) }
+    {
+        if !are_terms(&terms, p) {
+            return None;
+        }
+        if !are_distinct(&terms) {
+            return None;
+        }
+        Some(PlainPoly { terms })
+    }
+
     /// The number of terms.
     pub fn len(&self) -> usize
         ensures { result ≡ length self.now.terms }
@@ -65,4 +81,38 @@ fn are_below(terms: &[PlainTerm], p: u64) -> bool
     ensures { IsTrue result ↔ All (λ t. t.rank < p) terms.now }
 {
     terms.iter().all(|term| term.rank < p)
+}
+
+// Whether each total is at most 2^41, and each rank that of a coefficient in GF(p) that isn't zero.
+fn are_terms(terms: &[PlainTerm], p: u64) -> bool
+    ensures { IsTrue result ↔ All (λ t. (sum t.exps ≤ 2 ^ 41) × (0 < t.rank) × (t.rank < p)) terms.now }
+{
+    terms.iter().all(|term| is_term(term, p))
+}
+
+// Whether the total is at most 2^41, and the rank is that of a coefficient in GF(p) that isn't zero.
+fn is_term(term: &PlainTerm, p: u64) -> bool
+    ensures { IsTrue result ↔ ((sum term.now.exps ≤ 2 ^ 41) × (0 < term.now.rank) × (term.now.rank < p)) }
+{
+    let total: u128 = term.exps.iter().map(|k| u128::from(*k)).sum();
+    total <= u128::from(TOTAL_LIMIT) && term.rank > 0 && term.rank < p
+}
+
+// Whether no two terms have the same exponents.
+fn are_distinct(terms: &[PlainTerm]) -> bool
+    ensures { IsTrue result ↔ AllPairs (λ s t. s.exps ≢ t.exps) terms.now }
+{
+    for (i, term) in terms.iter().enumerate() {
+        if !lacks_exponents(&terms[..i], term.exps) {
+            return false;
+        }
+    }
+    true
+}
+
+// Whether no term has these exponents.
+fn lacks_exponents(terms: &[PlainTerm], exps: [u64; 8]) -> bool
+    ensures { IsTrue result ↔ All (λ t. t.exps ≢ exps) terms.now }
+{
+    terms.iter().all(|term| term.exps != exps)
 }
