@@ -116,3 +116,43 @@ fn lacks_exponents(terms: &[PlainTerm], exps: [u64; 8]) -> bool
 {
     terms.iter().all(|term| term.exps != exps)
 }
+
+#[cfg(test)]
+mod tests {
+    use super::*;
+    use std::alloc::AllocError;
+
+    #[test]
+    fn terms_that_make_a_polynomial(rt: HostRuntime) -> Result<(), AllocError> {
+        let half = 1 << 40;
+        // The two exponents and the rank of a second term, beside x over GF(5), and whether the two make a polynomial.
+        for (x, y, rank, wanted) in [
+            (0, 1, 4, true),
+            (half, half, 1, true),
+            (half, half + 1, 1, false),
+            (u64::MAX, u64::MAX, 1, false),
+            (1, 0, 1, false),
+            (0, 1, 0, false),
+            (0, 1, 5, false),
+        ] {
+            let mut terms = Vec::new(rt.alloc());
+            terms.push(PlainTerm {
+                exps: [1, 0, 0, 0, 0, 0, 0, 0],
+                rank: 1,
+            })?;
+            terms.push(PlainTerm {
+                exps: [x, y, 0, 0, 0, 0, 0, 0],
+                rank,
+            })?;
+            match PlainPoly::of(terms, 5) {
+                Some(f) => {
+                    assert!(rt; wanted);
+                    assert_eq!(rt; f.len(), 2);
+                    assert_eq!(rt; f.get(1).rank, rank);
+                }
+                None => assert!(rt; !wanted),
+            }
+        }
+        Ok(())
+    }
+}
