@@ -1,4 +1,4 @@
-use Rattle.std.proofs.Common.{◌≡◌, ◌≢◌, ◌≤◌, AllPairs, take, refl, sym, subst, ◌∙◌}
+use Rattle.std.proofs.Common.{◌≢◌, AllPairs, refl, sym, subst, ◌∙◌}
 use Rattle.std.proofs.lemmas.Bool.{true≢false}
 use Rattle.std.proofs.lemmas.List.{take_all}
 use Rattle.fj_plain.specs.declared.term.PlainTerm.{PlainTerm}

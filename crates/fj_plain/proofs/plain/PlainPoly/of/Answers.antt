@@ -1,4 +1,4 @@
-use Rattle.std.proofs.Common.{◌≡◌, ◌≢◌, ◌<◌, ◌≤◌, ◌^◌, sum, List, All, AllPairs, subst, sym, ap, ◌∙◌}
+use Rattle.std.proofs.Common.{◌≢◌, ◌<◌, ◌≤◌, ◌^◌, sum, All, AllPairs, subst, sym, ◌∙◌}
 use Rattle.std.proofs.lemmas.Bool.{true≢false}
 use Rattle.fj_plain.specs.declared.term.PlainTerm.{PlainTerm}
 use Rattle.fj_plain.proofs.Distinct.{IsPlain-from_tests, HasRanksBelow-from_tests, tests-from_IsPlain, AllPairs-entries_back}
