@@ -5,3 +5,4 @@ pub mod Entries
 pub mod Each
 pub mod Powers
 pub mod Distinct
+pub mod Directions

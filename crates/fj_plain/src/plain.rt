@@ -1,9 +1,12 @@
 ghost use Rattle.std.specs.Prelude.{◌≡◌, ◌≢◌, ◌<◌, ◌≤◌, ◌^◌, ◌↔◌, length, sum, slice_get, All, AllPairs, IfSome, IsSome, IsTrue, Some};
 ghost use Rattle.fj_theory.specs.Plain.{IsPlain, HasRanksBelow};
 ghost use Rattle.fj_theory.specs.Certificate.{IsResidue};
+ghost use Rattle.fj_theory.specs.MonomialOrder.{compare_by};
 ghost use Rattle.fj_plain.specs.Terms.{entry, entries};
+ghost use Rattle.fj_plain.specs.DistanceKey.{distance_key};
 
 use crate::term::{PlainTerm, TOTAL_LIMIT};
+use std::cmp::Ordering;
 use std::marker::Model;
 
 /// A polynomial over a field GF(p) that isn't named here, as a list of terms in any order: no total is above 2^41, no
@@ -98,8 +101,66 @@ fn is_term(term: &PlainTerm, p: u64) -> bool
     total <= u128::from(TOTAL_LIMIT) && term.rank > 0 && term.rank < p
 }
 
-// Whether no two terms have the same exponents.
+// Whether no two terms have the same exponents. In a list that falls or rises neighbours are compared alone.
 fn are_distinct(terms: &[PlainTerm]) -> bool
+    requires { All (λ t. sum t.exps ≤ 2 ^ 41) terms.now }
+    ensures { IsTrue result ↔ AllPairs (λ s t. s.exps ≢ t.exps) terms.now }
+{
+    falls_or_rises(terms) || differ_pairwise(terms)
+}
+
+// Whether the exponents fall or rise strictly in Grevlex, as those of a polynomial do, so that no two are the same.
+fn falls_or_rises(terms: &[PlainTerm]) -> bool
+    requires { All (λ t. sum t.exps ≤ 2 ^ 41) terms.now }
+    ensures { IsTrue result → AllPairs (λ s t. s.exps ≢ t.exps) terms.now }
+{
+    if terms.len() < 2 {
+        return true;
+    }
+    let direction = compare(terms[0].exps, terms[1].exps);
+    if direction == Ordering::Equal {
+        return false;
+    }
+    for i in 1..terms.len() {
+        let last = terms[i - 1];
+        let next = terms[i];
+        if compare(last.exps, next.exps) != direction {
+            return false;
+        }
+    }
+    true
+}
+
+// The order of two exponent lists by their keys.
+fn compare(a: [u64; 8], b: [u64; 8]) -> Ordering
+    requires first { sum a ≤ 2 ^ 41 }
+    requires second { sum b ≤ 2 ^ 41 }
+    ensures { result ≡ compare_by distance_key a b }
+{
+    key(a).cmp(&key(b))
+}
+
+// How far the total is from its limit, and the exponents from the last one on: smaller keys are greater in Grevlex.
+fn key(exps: [u64; 8]) -> [u64; 9]
+    requires { sum exps ≤ 2 ^ 41 }
+    ensures { result ≡ distance_key exps }
+{
+    let total: u64 = exps.iter().sum();
+    [
+        TOTAL_LIMIT - total,
+        exps[7],
+        exps[6],
+        exps[5],
+        exps[4],
+        exps[3],
+        exps[2],
+        exps[1],
+        exps[0],
+    ]
+}
+
+// Whether no two terms have the same exponents, by comparing each two.
+fn differ_pairwise(terms: &[PlainTerm]) -> bool
     ensures { IsTrue result ↔ AllPairs (λ s t. s.exps ≢ t.exps) terms.now }
 {
     for (i, term) in terms.iter().enumerate() {

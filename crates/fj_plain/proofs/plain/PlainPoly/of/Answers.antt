@@ -28,3 +28,8 @@ pub returns-clause-below : goal.returns-clause-below
 returns-clause-below c =
     let tested = subst (λ ts. All (λ (t : PlainTerm). (sum t.exps ≤ 2 ^ 41) × (0 < t.rank) × (t.rank < c.args.p)) ts) c.deref.ensures.value (c.are_terms.ensures.0 c.if-not-are_terms.false) in
     record { below = HasRanksBelow-from_tests c.args.p c.args.terms.items tested }
+
+pub are_distinct-requires : goal.are_distinct-requires
+are_distinct-requires c =
+    let tested = subst (λ ts. All (λ (t : PlainTerm). (sum t.exps ≤ 2 ^ 41) × (0 < t.rank) × (t.rank < c.args.p)) ts) c.deref.ensures.value (c.are_terms.ensures.0 c.if-not-are_terms.false) in
+    subst (λ ts. All (λ (t : PlainTerm). sum t.exps ≤ 2 ^ 41) ts) (sym c.deref-2.ensures.value) (λ k d h. (tested k d h).0)

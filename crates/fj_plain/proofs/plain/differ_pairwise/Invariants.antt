@@ -1,5 +1,5 @@
 use Rattle.std.proofs.Common.{◌≢◌, AllPairs, take}
-use Rattle.fj_plain.proofs.plain.are_distinct.Given as goal
+use Rattle.fj_plain.proofs.plain.differ_pairwise.Given as goal
 
 -- the exponents so far are distinct
 abbrev pub invariant-loop-i : goal.invariant-loop-i

@@ -3,7 +3,7 @@ use Rattle.std.proofs.lemmas.Bool.{true≢false}
 use Rattle.std.proofs.lemmas.List.{take_all}
 use Rattle.fj_plain.specs.declared.term.PlainTerm.{PlainTerm}
 use Rattle.fj_plain.proofs.Distinct.{pairs_more, pairs_before}
-use Rattle.fj_plain.proofs.plain.are_distinct.Goals as goal
+use Rattle.fj_plain.proofs.plain.differ_pairwise.Goals as goal
 
 pub returns-then-not-lacks_exponents : goal.returns-then-not-lacks_exponents
 returns-then-not-lacks_exponents c = (
