@@ -3,8 +3,9 @@ ghost use Rattle.fj_theory.specs.Plain.{IsPlain, HasRanksBelow};
 ghost use Rattle.fj_theory.specs.Certificate.{IsResidue};
 ghost use Rattle.fj_theory.specs.MonomialOrder.{compare_by};
 ghost use Rattle.fj_plain.specs.Terms.{entry, entries};
-ghost use Rattle.fj_plain.specs.DistanceKey.{distance_key};
+ghost use Rattle.fj_plain.specs.TermKey.{term_key};
 
+use crate::order_name::OrderName;
 use crate::term::{PlainTerm, TOTAL_LIMIT};
 use std::cmp::Ordering;
 use std::marker::Model;
@@ -101,62 +102,63 @@ fn is_term(term: &PlainTerm, p: u64) -> bool
     total <= u128::from(TOTAL_LIMIT) && term.rank > 0 && term.rank < p
 }
 
-// Whether no two terms have the same exponents. In a list that falls or rises neighbours are compared alone.
+// Whether no two terms have the same exponents. In a list that falls or rises in an order, neighbours are compared
+// alone.
 fn are_distinct(terms: &[PlainTerm]) -> bool
     requires { All (λ t. sum t.exps ≤ 2 ^ 41) terms.now }
     ensures { IsTrue result ↔ AllPairs (λ s t. s.exps ≢ t.exps) terms.now }
 {
-    falls_or_rises(terms) || differ_pairwise(terms)
+    falls_or_rises(OrderName::Grevlex, terms)
+        || falls_or_rises(OrderName::Lex, terms)
+        || falls_or_rises(OrderName::Grlex, terms)
+        || falls_or_rises(OrderName::Elim, terms)
+        || differ_pairwise(terms)
 }
 
-// Whether the exponents fall or rise strictly in Grevlex, as those of a polynomial do, so that no two are the same.
-fn falls_or_rises(terms: &[PlainTerm]) -> bool
+// Whether the exponents fall or rise strictly in an order, so that no two are the same.
+fn falls_or_rises(order: OrderName, terms: &[PlainTerm]) -> bool
     requires { All (λ t. sum t.exps ≤ 2 ^ 41) terms.now }
     ensures { IsTrue result → AllPairs (λ s t. s.exps ≢ t.exps) terms.now }
 {
     if terms.len() < 2 {
         return true;
     }
-    let direction = compare(terms[0].exps, terms[1].exps);
+    let direction = compare(order, terms[0].exps, terms[1].exps);
     if direction == Ordering::Equal {
         return false;
     }
     for i in 1..terms.len() {
         let last = terms[i - 1];
         let next = terms[i];
-        if compare(last.exps, next.exps) != direction {
+        if compare(order, last.exps, next.exps) != direction {
             return false;
         }
     }
     true
 }
 
-// The order of two exponent lists by their keys.
-fn compare(a: [u64; 8], b: [u64; 8]) -> Ordering
+// How two exponent lists compare by their keys.
+fn compare(order: OrderName, a: [u64; 8], b: [u64; 8]) -> Ordering
     requires first { sum a ≤ 2 ^ 41 }
     requires second { sum b ≤ 2 ^ 41 }
-    ensures { result ≡ compare_by distance_key a b }
+    ensures { result ≡ compare_by (term_key order) a b }
 {
-    key(a).cmp(&key(b))
+    key(order, a).cmp(&key(order, b))
 }
 
-// How far the total is from its limit, and the exponents from the last one on: smaller keys are greater in Grevlex.
-fn key(exps: [u64; 8]) -> [u64; 9]
+// The key of an exponent list in an order.
+fn key(order: OrderName, exps: [u64; 8]) -> [u64; 9]
     requires { sum exps ≤ 2 ^ 41 }
-    ensures { result ≡ distance_key exps }
+    ensures { result ≡ term_key order exps }
 {
     let total: u64 = exps.iter().sum();
-    [
-        TOTAL_LIMIT - total,
-        exps[7],
-        exps[6],
-        exps[5],
-        exps[4],
-        exps[3],
-        exps[2],
-        exps[1],
-        exps[0],
-    ]
+    let [a, b, c, d, e, f, g, h] = exps;
+    match order {
+        OrderName::Lex => [a, b, c, d, e, f, g, h, 0],
+        OrderName::Grlex => [total, a, b, c, d, e, f, g, h],
+        OrderName::Grevlex => [TOTAL_LIMIT - total, h, g, f, e, d, c, b, a],
+        OrderName::Elim => [u64::MAX - h, TOTAL_LIMIT - total, g, f, e, d, c, b, a],
+    }
 }
 
 // Whether no two terms have the same exponents, by comparing each two.
