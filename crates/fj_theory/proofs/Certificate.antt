@@ -1,5 +1,5 @@
 -- Sums of products of the polynomials at equal places, gathered one after another.
-use Rattle.std.proofs.Common.{◌≡◌, ℕ, zero, suc, ◌+◌, ◌<◌, ◌≤◌, List, [], ◌∷◌, length, map, drop, get_or, All, Contains, Some, option_map, slice_get, refl, sym, ap, ap₂, ◌∙◌, subst, arith, add-one}
+use Rattle.std.proofs.Common.{◌≡◌, ℕ, suc, ◌+◌, ◌≤◌, List, [], ◌∷◌, length, map, drop, All, Contains, Some, option_map, slice_get, refl, sym, ap, ap₂, ◌∙◌, subst, add-one}
 use Rattle.std.specs.FinMap.{empty, from_entries}
 use Rattle.std.proofs.Math.Seq.{drop-cons}
 use Rattle.std.proofs.lemmas.List.{drop_all}

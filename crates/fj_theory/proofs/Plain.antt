@@ -1,5 +1,5 @@
 -- Plain polynomials as polynomials over GF(p), and the terms of a multiple of a p^e-th power.
-use Rattle.std.proofs.Common.{◌≡◌, ◌≢◌, ℕ, zero, suc, ◌+◌, ◌*◌, ◌%◌, ◌^◌, ◌<◌, ◌≤◌, ◌==◌, Bool, true, false, cond, List, [], ◌∷◌, ◌++◌, length, map, drop, flat_map, get_or, nat_cmp, lit<, All, AllPairs, Contains, Option, Some, unwrap_or, refl, sym, ap, ap₂, ◌∙◌, subst, arith, add-one, pow-suc, slice_get}
+use Rattle.std.proofs.Common.{◌≡◌, ◌≢◌, ℕ, zero, suc, ◌+◌, ◌*◌, ◌%◌, ◌^◌, ◌<◌, ◌≤◌, ◌==◌, Bool, true, false, cond, List, [], ◌∷◌, ◌++◌, length, map, drop, flat_map, get_or, nat_cmp, lit<, All, AllPairs, Contains, Some, unwrap_or, refl, sym, ap, ◌∙◌, subst, arith, add-one, pow-suc, slice_get}
 use Rattle.std.specs.Cmp.Lexicographic.{slice_cmp}
 use Rattle.std.specs.FinMap.{get, insert, empty, entries, from_entries, get-empty, get-insert, get-from_entries}
 use Rattle.std.proofs.Math.Nat.{pow-zero}
@@ -7,7 +7,7 @@ use Rattle.std.proofs.Math.Seq.{drop-cons}
 use Rattle.std.proofs.lemmas.Cmp.{nat_list_cmp_total}
 use Rattle.std.proofs.lemmas.List.Sums.{get_or-le-sum_by}
 use Rattle.std.proofs.lemmas.Option.{none-some, slice_get_within, get_or_from_slice_get}
-use Rattle.std.proofs.lemmas.List.Elements.{All-nil, All-cons, All-head, All-tail, All-drop, All-append, All-map, All-weaker}
+use Rattle.std.proofs.lemmas.List.Elements.{All-head, All-tail, All-drop, All-append, All-map, All-weaker}
 use Rattle.fj_algebra.proofs.Lists.{All-flat_map, All-map_back}
 use Rattle.fj_coeff.specs.Field as field
 use Rattle.fj_coeff.specs.Field.{Field, IsField, primes}
@@ -17,7 +17,7 @@ use Rattle.fj_algebra.specs.Power as ring
 use Rattle.fj_algebra.proofs.Power.{power-1, power-power}
 use Rattle.fj_theory.specs.Exponents.{IsExponents, plus, times, total}
 use Rattle.fj_theory.specs.Polynomial.{Polynomial, IsPolynomial, IsTerm, coefficient, support, with_coefficients, convolution, sum, product, power, term}
-use Rattle.fj_theory.specs.Plain.{IsPlain, PlainPolynomial, polynomial, HasRanksBelow, rising_terms, plain_sum, plain_product}
+use Rattle.fj_theory.specs.Plain.{PlainPolynomial, polynomial, HasRanksBelow, rising_terms, plain_sum, plain_product}
 use Rattle.fj_theory.proofs.Exponents.{IsExponents-plus, IsExponents-times, total-plus}
 use Rattle.fj_theory.proofs.Field.{Element, element_equal, field_ring}
 use Rattle.fj_theory.proofs.FormalSum.{same, same_true, same_false}

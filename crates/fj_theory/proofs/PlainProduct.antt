@@ -1,5 +1,5 @@
 -- Multiples of a polynomial by a rank, and the product of plain polynomials term by term.
-use Rattle.std.proofs.Common.{◌≡◌, ℕ, suc, ◌+◌, ◌-◌, ◌%◌, ◌<◌, Bool, true, false, cond, List, ◌∷◌, length, drop, get_or, All, Contains, Some, slice_get, unwrap_or, refl, sym, ap, ap₂, ◌∙◌, subst, arith, add-one}
+use Rattle.std.proofs.Common.{◌≡◌, ℕ, suc, ◌+◌, ◌-◌, ◌%◌, ◌<◌, Bool, true, false, cond, List, ◌∷◌, drop, All, Contains, Some, slice_get, unwrap_or, refl, sym, ap, ap₂, ◌∙◌, subst, arith, add-one}
 use Rattle.std.specs.FinMap.{from_entries, empty}
 use Rattle.std.proofs.Math.Nat.{mod_self, mod-eq_of_lt}
 use Rattle.std.proofs.Math.Seq.{drop-cons}
@@ -10,9 +10,9 @@ use Rattle.fj_coeff.specs.PrimeField.{prime_field}
 use Rattle.fj_coeff.specs.PrimeFieldLaws.{IsField-prime_field}
 use Rattle.fj_algebra.specs.Ring.{CommutativeRing}
 use Rattle.fj_algebra.proofs.Ring.{neg_mul, one_mul}
-use Rattle.fj_theory.specs.Exponents.{IsExponents, origin}
+use Rattle.fj_theory.specs.Exponents.{origin}
 use Rattle.fj_theory.specs.Polynomial.{Polynomial, IsPolynomial, IsTerm, coefficient, sum, product, power, term, negation}
-use Rattle.fj_theory.specs.Plain.{PlainPolynomial, polynomial, HasRanksBelow}
+use Rattle.fj_theory.specs.Plain.{PlainPolynomial, HasRanksBelow}
 use Rattle.fj_theory.proofs.Exponents.{IsExponents-origin}
 use Rattle.fj_theory.proofs.Field.{one_below}
 use Rattle.fj_theory.proofs.FormalSum.{same}
