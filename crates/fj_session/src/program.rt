@@ -4,6 +4,9 @@ ghost use Rattle.std.specs.Io.KnownBytes.{Appends};
 ghost use Rattle.fj_session.specs.Outside.{AppendsFront, Rose};
 ghost use Rattle.fj_session.specs.Program.{AreRun, IsOutcome, IsRun, texts_of};
 
+#[cfg(test)]
+mod tests;
+
 use super::answer::answer;
 use super::form::{FormFault, read_form};
 use super::input::{ReadFault, read_session};
