@@ -1,8 +1,10 @@
+pub mod EighthVariable
 pub mod Exponents
 pub mod MonomialOrder
 pub mod Keys
 pub mod Field
 pub mod FormalSum
+pub mod OrderedPolynomials
 pub mod Polynomial
 pub mod Product
 pub mod PolynomialRing
