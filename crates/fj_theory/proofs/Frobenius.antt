@@ -25,7 +25,7 @@ pow_positive : (m k : ℕ) → 0 < m → 0 < m ^ k
 pow_positive m zero h = subst (λ n. 0 < n) (sym (pow-zero m)) (omega arith)
 pow_positive m (suc k) h = subst (λ n. 0 < n) (sym (pow-suc m k)) (mul-pos (pow_positive m k h) h)
 
-same-times : (q : ℕ) (a b : List ℕ) → 0 < q → same (times q a) (times q b) ≡ same a b
+pub same-times : (q : ℕ) (a b : List ℕ) → 0 < q → same (times q a) (times q b) ≡ same a b
 same-times q a b h = by (same a b) refl
   where
     by : (s : Bool) → same a b ≡ s → same (times q a) (times q b) ≡ s

@@ -16,3 +16,4 @@ pub mod Roots
 pub mod Parts
 pub mod PartsList
 pub mod PartsExistence
+pub mod PartsRing

@@ -86,7 +86,7 @@ pub parts_of : Field → ℕ → Polynomial → List Part
 parts_of F e h =
     map (λ a. record { residue = a; polynomial = from_entries (part_terms F e a (entries h)) }) (support (with_coefficients (λ _. 1) (map (λ t. residue_by (F.characteristic ^ e) t.0) (entries h))))
 
-residues_of-map : (f : List ℕ → Polynomial) (rs : List (List ℕ)) → residues_of (map (λ a. record { residue = a; polynomial = f a }) rs) ≡ rs
+pub residues_of-map : (f : List ℕ → Polynomial) (rs : List (List ℕ)) → residues_of (map (λ a. record { residue = a; polynomial = f a }) rs) ≡ rs
 residues_of-map f [] = refl
 residues_of-map f (a ∷ rs) = ap (λ ss. a ∷ ss) (residues_of-map f rs)
 

@@ -103,6 +103,21 @@ module _ {F : Field} (L : IsField F) (e : ℕ) where
   same_split_not {a} b x A B below s =
       same_false _ x (λ f. true≢false (sym (same_itself a) ∙ ap (same a) (sym (residue_by-plus (F.characteristic ^ e) B A below) ∙ ap (residue_by (F.characteristic ^ e)) f) ∙ s))
 
+  -- The terms of a part are terms.
+  pub IsTerm-part_terms : (a : List ℕ) (ts : List (List ℕ × ℕ)) → All (IsTerm F) ts → All (IsTerm F) (part_terms F e a ts)
+  unfolding part_terms
+  IsTerm-part_terms a [] all = All-nil (IsTerm F)
+  IsTerm-part_terms a (t ∷ ts) all = by (same a (residue_by (F.characteristic ^ e) t.0)) (IsTerm-part_terms a ts (All-tail (IsTerm F) t ts all))
+    where
+      B : IsTerm F t
+      B = All-head (IsTerm F) t ts all
+
+      by : (s : Bool) → All (IsTerm F) (part_terms F e a ts) → All (IsTerm F) (if s then (quotient_by (F.characteristic ^ e) t.0, iterated_root F e t.1) ∷ part_terms F e a ts else part_terms F e a ts)
+      by true rest =
+          All-cons (IsTerm F) (quotient_by (F.characteristic ^ e) t.0, iterated_root F e t.1) (part_terms F e a ts)
+          (record { exponents = IsExponents-quotient_by (F.characteristic ^ e) B.exponents; nonzero = iterated_root_positive L e t.1 B.nonzero B.below; below = iterated_root_below L e t.1 B.below }) rest
+      by false rest = rest
+
   module _ {a : List ℕ} (A : IsExponents a) (below : All (λ k. k < F.characteristic ^ e) a) where
     -- The coefficients of the part are roots of those of the polynomial.
     pub coefficient-part_terms : (ts : List (List ℕ × ℕ)) → All (λ t. IsExponents t.0) ts → {b : List ℕ} → IsExponents b
@@ -133,20 +148,6 @@ module _ {F : Field} (L : IsField F) (e : ℕ) where
             ∙ ap₂ (λ u c. cond u (iterated_root F e t.1) c) (sym (same_split b t.0 A B below (All-head (λ t. IsExponents t.0) t ts all) s)) rec
             ∙ choose (same x t.0) t.1 (coefficient (from_entries ts) x)
         by false s rec = rec ∙ ap (λ u. iterated_root F e (cond u t.1 (coefficient (from_entries ts) x))) (sym (same_split_not b t.0 A B below s))
-
-    pub IsTerm-part_terms : (ts : List (List ℕ × ℕ)) → All (IsTerm F) ts → All (IsTerm F) (part_terms F e a ts)
-    unfolding part_terms
-    IsTerm-part_terms [] all = All-nil (IsTerm F)
-    IsTerm-part_terms (t ∷ ts) all = by (same a (residue_by (F.characteristic ^ e) t.0)) (IsTerm-part_terms ts (All-tail (IsTerm F) t ts all))
-      where
-        B : IsTerm F t
-        B = All-head (IsTerm F) t ts all
-
-        by : (s : Bool) → All (IsTerm F) (part_terms F e a ts) → All (IsTerm F) (if s then (quotient_by (F.characteristic ^ e) t.0, iterated_root F e t.1) ∷ part_terms F e a ts else part_terms F e a ts)
-        by true rest =
-            All-cons (IsTerm F) (quotient_by (F.characteristic ^ e) t.0, iterated_root F e t.1) (part_terms F e a ts)
-            (record { exponents = IsExponents-quotient_by (F.characteristic ^ e) B.exponents; nonzero = iterated_root_positive L e t.1 B.nonzero B.below; below = iterated_root_below L e t.1 B.below }) rest
-        by false rest = rest
 
     -- The residue of a term whose part is listed is not missed.
     pub part_terms_nonzero : (ts : List (List ℕ × ℕ)) → All (IsTerm F) ts → (t : List ℕ × ℕ) → coefficient (from_entries ts) t.0 ≡ t.1 → IsTerm F t → residue_by (F.characteristic ^ e) t.0 ≡ a → from_entries {R = slice_cmp nat_cmp} (part_terms F e a ts) ≢ empty
@@ -179,7 +180,7 @@ module _ {F : Field} (L : IsField F) (e : ℕ) where
         residues = residues;
         below = below;
         distinct = Distinct-from_Rises (residues_of parts) (Rises-from_IsRising (residues_of parts) (All-map IsExponents (λ part. part.residue) parts residues) rising);
-        polynomials = λ k d h. subst (IsPolynomial F) (sym (each k d h)) (IsPolynomial-from_entries _ (IsTerm-part_terms (residues k d h) (below k d h) ts all));
+        polynomials = λ k d h. subst (IsPolynomial F) (sym (each k d h)) (IsPolynomial-from_entries _ (IsTerm-part_terms _ ts all));
       }
 
       roots : All (λ part. (b : List ℕ) → IsExponents b → field.power F (coefficient part.polynomial b) (F.characteristic ^ e) ≡ coefficient (from_entries ts) (plus (times (F.characteristic ^ e) b) part.residue)) parts
