@@ -82,7 +82,7 @@ module _ {key : List ℕ → List ℕ} (O : IsMonomialOrder key) {F : Field} (L 
   IsFalling-part_terms ts all h = IsFalling-from_Falls key (part_terms F e a ts) (Falls-part_terms ts all (Falls-from_IsFalling key ts h))
 
 -- The list of parts: the residues of the terms in Lex, each with the terms of its part.
-pub parts_of : Field → ℕ → Polynomial → List Part
+unfoldable pub parts_of : Field → ℕ → Polynomial → List Part
 parts_of F e h =
     map (λ a. record { residue = a; polynomial = from_entries (part_terms F e a (entries h)) }) (support (with_coefficients (λ _. 1) (map (λ t. residue_by (F.characteristic ^ e) t.0) (entries h))))
 

@@ -154,3 +154,12 @@ module _ {F : Field} (L : IsField F) (e : ℕ) where
     origin_listed = (is_member-Decides same-Decides (residues_below (F.characteristic ^ e)) origin).0 (in_residues_below (F.characteristic ^ e) IsExponents-origin origin_below);
     origin_part = part_of_one;
   }
+
+  -- Its parts as maps, and its residues.
+  pub map_part : (h : PolynomialOver F) (a : List ℕ) → (polynomial-Parts.part h a).map ≡ from_entries (part_terms F e a (entries h.map))
+  unfolding polynomial-Parts part_of
+  map_part h a = refl
+
+  pub residue_listed : {a : List ℕ} → IsExponents a → All (λ k. k < F.characteristic ^ e) a → Contains polynomial-Parts.residues a
+  unfolding polynomial-Parts
+  residue_listed {a} A below = (is_member-Decides same-Decides (residues_below (F.characteristic ^ e)) a).0 (in_residues_below (F.characteristic ^ e) A below)

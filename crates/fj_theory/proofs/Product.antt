@@ -177,12 +177,12 @@ module _ {F : Field} (L : IsField F) where
       by false e = sum_over_each (K L) _ (λ d. (K L).zero) fs (λ k d h. ap (λ t. cond t ((K L).mul x (get_or fs k d).1) (K L).zero) (same-plus_not a B (all k d h) e)) ∙ sum_over-zero (K L) fs
 
   -- Sums of ranks in the field are sums in the ring.
-  total_over_below : (c : List ℕ → ℕ) → ((b : List ℕ) → c b < F.size) → (xs : List (List ℕ)) → total_over F c xs < F.size
+  pub total_over_below : (c : List ℕ → ℕ) → ((b : List ℕ) → c b < F.size) → (xs : List (List ℕ)) → total_over F c xs < F.size
   unfolding total_over
   total_over_below c h [] = zero_below L
   total_over_below c h (x ∷ xs) = L.add_below (c x) (total_over F c xs) (h x) (total_over_below c h xs)
 
-  element-total_over : (c : List ℕ → ℕ) → ((b : List ℕ) → c b < F.size) → (xs : List (List ℕ)) → element L (total_over F c xs) ≡ sum_over (K L) (λ b. element L (c b)) xs
+  pub element-total_over : (c : List ℕ → ℕ) → ((b : List ℕ) → c b < F.size) → (xs : List (List ℕ)) → element L (total_over F c xs) ≡ sum_over (K L) (λ b. element L (c b)) xs
   unfolding total_over
   element-total_over c h [] = element_zero L
   element-total_over c h (x ∷ xs) = element_add L (c x) (total_over F c xs) (h x) (total_over_below c h xs) ∙ ap ((K L).add (element L (c x))) (element-total_over c h xs)

@@ -2,3 +2,10 @@ pub mod Exponents
 pub mod MonomialOrder
 pub mod Polynomial
 pub mod Parts
+pub mod Ideal
+pub mod FrobeniusPower
+pub mod Root
+pub mod Colon
+pub mod Evaluation
+pub mod RootLaws
+pub mod PointIdeal

@@ -2,3 +2,5 @@
 //! product and power, and the parts of a polynomial. `specs/` holds the definitions, each with its source, and
 //! `proofs/` the laws that the crates above cite.
 #![tactic(auto)]
+
+pub mod laws;
