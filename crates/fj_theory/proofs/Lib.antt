@@ -25,3 +25,5 @@ pub mod PointIdeal
 pub mod PartsExistence
 pub mod PartsRing
 pub mod RootParts
+pub mod Lead
+pub mod ReducedBasis

@@ -9,3 +9,5 @@ pub mod Colon
 pub mod Evaluation
 pub mod RootLaws
 pub mod PointIdeal
+pub mod Lead
+pub mod ReducedBasis
