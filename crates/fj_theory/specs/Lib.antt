@@ -11,3 +11,6 @@ pub mod RootLaws
 pub mod PointIdeal
 pub mod Lead
 pub mod ReducedBasis
+pub mod Steps
+pub mod Division
+pub mod Run
