@@ -16,7 +16,7 @@ use Rattle.fj_theory.specs.Lead.{lead_exponents, lead_coefficient, made_monic}
 use Rattle.fj_theory.proofs.MonomialOrder.{compare_by_total}
 use Rattle.fj_theory.proofs.Exponents.{IsExponents-origin, IsExponents-minus, plus-minus, divides-plus}
 use Rattle.fj_theory.proofs.Field.{Element, zero_below, rank_zero, element_equal}
-use Rattle.fj_theory.proofs.Polynomial.{get-coefficient, coefficient-Some, coefficient-empty, IsPolynomial-empty}
+use Rattle.fj_theory.proofs.Polynomial.{coefficient_below, get-coefficient, coefficient-Some, coefficient-empty, IsPolynomial-empty}
 use Rattle.fj_theory.proofs.Terms.{Falls, Falls-from_IsFalling, find_All, terms_falling-IsFalling, terms_falling-exponents, find-terms_falling, terms_falling-get, from_entries-terms_falling}
 use Rattle.fj_theory.proofs.PolynomialRing.{PolynomialOver, over_equal, polynomial_ring, map_zero}
 use Rattle.fj_theory.proofs.OrderedPolynomials.{Exponents, exponents_equal, times, monomials, monomial_order, scalars, coefficient_at, polynomials, ordered_polynomials}
@@ -90,6 +90,9 @@ module _ {key : List ℕ → List ℕ} (K : IsMonomialOrder key) {F : Field} whe
       | inl e ↦ ap (λ g. coefficient g (lead_exponents key f)) e ∙ coefficient-empty (lead_exponents key f) ∙ sym (ap (lead_coefficient key) e ∙ lead_coefficient-empty key)
       | inr f ↦ f.there
     ]
+
+    pub lead_coefficient-below : 0 < F.size → lead_coefficient key f < F.size
+    lead_coefficient-below h = subst (λ c. c < F.size) coefficient-lead (coefficient_below P h (lead_exponents key f))
 
     pub lead_coefficient-nonzero : f ≢ empty → 0 < lead_coefficient key f
     lead_coefficient-nonzero n = elim (lead_cases P) [ inl e ↦ absurd (n e) | inr f ↦ f.nonzero ]

@@ -27,3 +27,5 @@ pub mod PartsRing
 pub mod RootParts
 pub mod Lead
 pub mod ReducedBasis
+pub mod Steps
+pub mod Division

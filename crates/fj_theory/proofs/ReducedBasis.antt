@@ -42,6 +42,23 @@ not_false : (t : Bool) → (IsTrue t → ⊥) → t ≡ false
 not_false true n = absurd (n refl)
 not_false false n = refl
 
+module _ {F : Field} (L : IsField F) where
+  pub exponents_of : (f : PolynomialOver F) (a : List ℕ) → 0 < coefficient f.map a → IsExponents a
+  exponents_of f a p = f.is_polynomial.exponents a _ (get-coefficient f.map a p)
+
+  -- A coefficient that is not zero, both ways.
+  pub positive : (g : PolynomialOver F) (a : Exponents) → coefficient_at L g a ≢ (field_ring L).zero → 0 < coefficient g.map a.list
+  unfolding coefficient_at
+  positive g a n = go (coefficient g.map a.list) refl
+    where
+      go : (c : ℕ) → coefficient g.map a.list ≡ c → 0 < coefficient g.map a.list
+      go zero e = absurd (n (element_equal _ _ (e ∙ sym (rank_zero L))))
+      go (suc c) e = omega (arith, e)
+
+  pub positive_back : (g : PolynomialOver F) (a : Exponents) → 0 < coefficient g.map a.list → coefficient_at L g a ≢ (field_ring L).zero
+  unfolding coefficient_at
+  positive_back g a h e = let r = ap (λ x. x.rank) e ∙ rank_zero L in absurd (omega (arith, h, r))
+
 module _ {key : List ℕ → List ℕ} (K : IsMonomialOrder key) {F : Field} (L : IsField F) where
   abbrev P : abstract.OrderedPolynomials (Element F) Exponents (PolynomialOver F)
   P = ordered_polynomials L K
@@ -62,19 +79,6 @@ module _ {key : List ℕ → List ℕ} (K : IsMonomialOrder key) {F : Field} (L 
 
   pub monic_nonzero : (g : PolynomialOver F) → lead_coefficient key g.map ≡ 1 → g.map ≢ empty
   monic_nonzero g e = nonzero-lead_coefficient K g.is_polynomial (omega (arith, e))
-
-  -- A coefficient that is not zero, both ways.
-  positive : (g : PolynomialOver F) (a : Exponents) → coefficient_at L g a ≢ (field_ring L).zero → 0 < coefficient g.map a.list
-  unfolding coefficient_at
-  positive g a n = go (coefficient g.map a.list) refl
-    where
-      go : (c : ℕ) → coefficient g.map a.list ≡ c → 0 < coefficient g.map a.list
-      go zero e = absurd (n (element_equal _ _ (e ∙ sym (rank_zero L))))
-      go (suc c) e = omega (arith, e)
-
-  positive_back : (g : PolynomialOver F) (a : Exponents) → 0 < coefficient g.map a.list → coefficient_at L g a ≢ (field_ring L).zero
-  unfolding coefficient_at
-  positive_back g a h e = let r = ap (λ x. x.rank) e ∙ rank_zero L in absurd (omega (arith, h, r))
 
   rises_over : (g h : PolynomialOver F) → compare_by key (lead_exponents key g.map) (lead_exponents key h.map) ≡ Less → basis.LeadsRise P g h
   unfolding ordered_polynomials polynomials monomial_order lead_at
@@ -104,34 +108,30 @@ module _ {key : List ℕ → List ℕ} (K : IsMonomialOrder key) {F : Field} (L 
   free_over : (g h : PolynomialOver F) → IsFreeOf key g.map h.map → basis.IsFreeOf P g h
   unfolding ordered_polynomials polynomials lead_at
   free_over g h f = record {
-    free = λ a b n l d. true≢false (sym (divides-from_Divides (subst (λ b. order.Divides monomials b a) (lead_from_IsLead K L l) d)) ∙ f.free a.list (positive g a n));
+    free = λ a b n l d. true≢false (sym (divides-from_Divides (subst (λ b. order.Divides monomials b a) (lead_from_IsLead K L l) d)) ∙ f.free a.list (positive L g a n));
   }
 
   free_map : (g h : PolynomialOver F) → h.map ≢ empty → basis.IsFreeOf P g h → IsFreeOf key g.map h.map
   unfolding ordered_polynomials polynomials lead_at
   free_map g h m f = record {
     free = λ a p.
-        let at : Exponents = record { list = a; is_exponents = g.is_polynomial.exponents a _ (get-coefficient g.map a p) } in
-        not_false _ (λ d. f.free at (lead_at K h.is_polynomial) (positive_back g at p) (IsLead-from_lead K L h m) (Divides-from_divides (lead_at K h.is_polynomial) at d));
+        let at : Exponents = record { list = a; is_exponents = exponents_of L g a p } in
+        not_false _ (λ d. f.free at (lead_at K h.is_polynomial) (positive_back L g at p) (IsLead-from_lead K L h m) (Divides-from_divides (lead_at K h.is_polynomial) at d));
   }
 
-  -- The leads that a list divides, both ways.
-  pub LeadIsReducible-from_LeadDivides : (N : List (PolynomialOver F)) (h : PolynomialOver F) → All (λ g. g.map ≢ empty) N → h.map ≢ empty → LeadDivides key (maps N) (lead_exponents key h.map) → buchberger.LeadIsReducible P (Contains N) h
+  -- The monomials that a lead of a list divides, both ways.
+  pub IsReducible-from_LeadDivides : (N : List (PolynomialOver F)) (a : Exponents) → All (λ g. g.map ≢ empty) N → LeadDivides key (maps N) a.list → buchberger.IsReducible P (Contains N) a
   unfolding ordered_polynomials polynomials lead_at
-  LeadIsReducible-from_LeadDivides N h all n d =
-      let found = Any-element (λ g. IsTrue (divides (lead_exponents key g) (lead_exponents key h.map))) (maps N) d in
+  IsReducible-from_LeadDivides N a all d =
+      let found = Any-element (λ g. IsTrue (divides (lead_exponents key g) a.list)) (maps N) d in
       let back = contains_map_back (λ g. g.map) N found.0 found.1 in
       let g = back.0 in
       record {
-        lead = lead_at K h.is_polynomial;
-        is_lead = IsLead-from_lead K L h n;
-        reducible = record {
-          divisor = g;
-          member = back.1;
-          lead = lead_at K g.is_polynomial;
-          is_lead = IsLead-from_lead K L g (All-contains (λ g. g.map ≢ empty) N g all back.1);
-          divides = Divides-from_divides (lead_at K g.is_polynomial) (lead_at K h.is_polynomial) (subst (λ m. IsTrue (divides (lead_exponents key m) (lead_exponents key h.map))) (sym back.2) found.2);
-        };
+        divisor = g;
+        member = back.1;
+        lead = lead_at K g.is_polynomial;
+        is_lead = IsLead-from_lead K L g (All-contains (λ g. g.map ≢ empty) N g all back.1);
+        divides = Divides-from_divides (lead_at K g.is_polynomial) a (subst (λ m. IsTrue (divides (lead_exponents key m) a.list)) (sym back.2) found.2);
       }
 
   pub LeadDivides-from_IsReducible : (N : List (PolynomialOver F)) (a : Exponents) → buchberger.IsReducible P (Contains N) a → LeadDivides key (maps N) a.list
@@ -142,7 +142,7 @@ module _ {key : List ℕ → List ℕ} (K : IsMonomialOrder key) {F : Field} (L 
 
   -- Reduced bases, to the ring of polynomials and back.
   from_maps : (M N : List (PolynomialOver F)) → IsReducedBasis F key (maps M) (maps N) → basis.IsReducedBasis P M N
-  unfolding ordered_polynomials polynomials
+  unfolding ordered_polynomials polynomials lead_at
   from_maps M N B =
       let monic : All (λ g. lead_coefficient key g.map ≡ 1) N = All-map_back (λ g. lead_coefficient key g ≡ 1) (λ g. g.map) N B.monic in
       record {
@@ -151,8 +151,13 @@ module _ {key : List ℕ → List ℕ} (K : IsMonomialOrder key) {F : Field} (L 
         rising = λ i j d l k. rises_over _ _ (rising_over N B.rising i j d l k);
         reduced = AllPairs-map_back (basis.AreReduced P) (AreReduced key) (λ g. g.map) N (λ g h r. record { first = free_over g h r.first; second = free_over h g r.second }) B.reduced;
         covers = record {
-          covers = λ h m n. LeadIsReducible-from_LeadDivides N h (All-weaker (λ g. lead_coefficient key g.map ≡ 1) (λ g. g.map ≢ empty) (λ g e. monic_nonzero g e) N monic) (nonzero_map K L n)
-              (B.covers h.map (Member_map L (InRing-maps M) m) (nonzero_map K L n));
+          covers = λ h m n. record {
+            lead = lead_at K h.is_polynomial;
+            is_lead = IsLead-from_lead K L h (nonzero_map K L n);
+            reducible = IsReducible-from_LeadDivides N (lead_at K h.is_polynomial)
+                (All-weaker (λ g. lead_coefficient key g.map ≡ 1) (λ g. g.map ≢ empty) (λ g e. monic_nonzero g e) N monic)
+                (B.covers h.map (Member_map L (InRing-maps M) m) (nonzero_map K L n));
+          };
         };
       }
 

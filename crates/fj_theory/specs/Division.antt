@@ -43,11 +43,10 @@ first_divisor key (g ∷ G) a = if divides (lead_exponents key g.polynomial) a t
 unfoldable pub member_at : List Sugared → ℕ → Sugared
 member_at G k = slice_index_or G k (record { polynomial = empty; sugar = 0 })
 
--- The multiple of the member at the place k that cancels the dividend's lead is subtracted, and its factor is added to the
--- member's quotient. The sugar rises to that of the multiple.
-unfoldable pub cancel_lead : Field → (List ℕ → List ℕ) → List Sugared → ℕ → Division → Division
-cancel_lead F key G k s =
-    let g = member_at G k in
+-- The multiple of the member g at the place k that cancels the dividend's lead is subtracted, and its factor is added to
+-- the member's quotient. The sugar rises to that of the multiple.
+unfoldable pub cancel_lead : Field → (List ℕ → List ℕ) → ℕ → Sugared → Division → Division
+cancel_lead F key k g s =
     let monomial = minus (lead_exponents key s.dividend) (lead_exponents key g.polynomial) in
     let factor = term (F.mul (lead_coefficient key s.dividend) (F.inverse (lead_coefficient key g.polynomial))) monomial in
     record {
@@ -70,7 +69,7 @@ move_lead F key s =
 
 -- One step: by the first member whose lead divides the dividend's lead, if there is one.
 unfoldable pub step_by : Field → (List ℕ → List ℕ) → List Sugared → Option ℕ → Division → Division
-step_by F key G (Some k) s = cancel_lead F key G k s
+step_by F key G (Some k) s = cancel_lead F key k (member_at G k) s
 step_by F key G None s = move_lead F key s
 
 pub record IsDivisionStep (F : Field) (key : List ℕ → List ℕ) (G : List Sugared) (s t : Division) : Type 0 where
