@@ -1,5 +1,5 @@
 -- Division of polynomials is that of the abstract theory: its identity, its remainder, and what its sugar bounds.
-use Rattle.std.proofs.Common.{◌≡◌, ◌≢◌, ◌⊎◌, inl, inr, ◌↔◌, ℕ, zero, suc, ◌+◌, ◌<◌, ◌≤◌, max, Bool, true, false, cond, IsTrue, List, [], ◌∷◌, length, get_or, set, replicate, map, All, Contains, Option, Some, None, true≢false, refl, sym, ap, ap₂, ◌∙◌, subst, arith}
+use Rattle.std.proofs.Common.{◌≡◌, ◌≢◌, inl, inr, ◌↔◌, ℕ, zero, suc, ◌+◌, ◌<◌, ◌≤◌, max, Bool, true, false, cond, IsTrue, List, [], ◌∷◌, length, get_or, set, replicate, map, All, Contains, Option, Some, None, true≢false, refl, sym, ap, ◌∙◌, subst, arith}
 use Rattle.std.specs.Option.{option_map}
 use Rattle.std.specs.FinMap.{empty}
 use Rattle.std.proofs.lemmas.Option.{none-some, same_Some}
@@ -14,24 +14,24 @@ use Rattle.fj_algebra.specs.Sugar as ring_sugar
 use Rattle.fj_algebra.proofs.Division as ring_laws
 use Rattle.fj_algebra.proofs.Sugar as ring_sugar_laws
 use Rattle.fj_theory.specs.MonomialOrder.{IsMonomialOrder}
-use Rattle.fj_theory.specs.Exponents.{IsExponents, total, plus, minus, divides}
-use Rattle.fj_theory.specs.Polynomial.{Polynomial, IsPolynomial, coefficient, term, sum, negation, product}
+use Rattle.fj_theory.specs.Exponents.{IsExponents, total, minus, divides}
+use Rattle.fj_theory.specs.Polynomial.{Polynomial, IsPolynomial, coefficient, term, sum}
 use Rattle.fj_theory.specs.Ideal.{ArePolynomials, list_combination, Member}
 use Rattle.fj_theory.specs.ReducedBasis.{LeadDivides, IsReducedBasis}
 use Rattle.fj_theory.specs.Lead.{lead_exponents, lead_coefficient}
 use Rattle.fj_theory.specs.Steps.{StepsTo}
-use Rattle.fj_theory.specs.Division.{degree_limit, Sugared, polynomials_of, Division, difference, DegreeAtMost, IsWithinSugar, first_divisor, member_at, step_by, IsDivisionStep, IsDivision, IsLowDivision, IsHighDivision, division_start, cancel_lead, move_lead}
+use Rattle.fj_theory.specs.Division.{Sugared, polynomials_of, Division, difference, DegreeAtMost, IsWithinSugar, first_divisor, member_at, step_by, IsDivisionStep, IsDivision, IsLowDivision, IsHighDivision, division_start, cancel_lead, move_lead}
 use Rattle.std.proofs.Math.ListN.{get_or-map}
 use Rattle.std.proofs.lemmas.List.{length-map, length-replicate, map-set, get_or_default}
 use Rattle.fj_algebra.proofs.Lists.{All-map_back}
 use Rattle.fj_algebra.proofs.ReducedBasis as basis_laws
 use Rattle.fj_algebra.proofs.Pairs.{contains_map, contains_map_back}
 use Rattle.fj_theory.proofs.Exponents.{total-plus_exponents, plus_comm, plus-minus, IsExponents-minus}
-use Rattle.fj_theory.proofs.Field.{zero_below, Element, element_equal, field_ring, rank_zero, rank_one, rank_mul}
-use Rattle.fj_theory.proofs.PolynomialRing.{PolynomialOver, over_equal, polynomial_ring, map_zero, map_one, map_add, map_neg, map_mul}
-use Rattle.fj_theory.proofs.OrderedPolynomials.{Exponents, exponents_equal, times, monomials, monomial_order, scalars, coefficient_at, term_at, polynomials, ordered_polynomials}
+use Rattle.fj_theory.proofs.Field.{zero_below, Element, element_equal, rank_mul}
+use Rattle.fj_theory.proofs.PolynomialRing.{PolynomialOver, over_equal, polynomial_ring, map_zero, map_add, map_neg, map_mul}
+use Rattle.fj_theory.proofs.OrderedPolynomials.{Exponents, exponents_equal, times, monomials, scalars, coefficient_at, term_at, polynomials, ordered_polynomials}
 use Rattle.fj_theory.proofs.IdealBridge.{over, maps, InRing, in_ring, ArePolynomials-maps, list_combination_map, Member_map, Member_over}
-use Rattle.fj_theory.proofs.Lead.{lead_at, IsLead-from_lead, lead_from_IsLead, nonzero_map, IsExponents-lead, coefficient-lead, lead_coefficient-below, lead_coefficient-nonzero, Divides-from_divides, divides-from_Divides}
+use Rattle.fj_theory.proofs.Lead.{lead_at, IsLead-from_lead, lead_from_IsLead, IsExponents-lead, coefficient-lead, lead_coefficient-below, lead_coefficient-nonzero, divides-from_Divides}
 use Rattle.fj_theory.proofs.ReducedBasis.{positive, positive_back, exponents_of, IsReducible-from_LeadDivides, IsReducedBasis_over}
 use Rattle.fj_theory.proofs.Steps.{StepsTo-end, StepsTo-through, StepsTo-keeps}
 
@@ -96,6 +96,12 @@ map-replicate f (suc n) x = ap (λ l. f x ∷ l) (map-replicate f n x)
 unfoldable pub forget : {F : Field} → ring_division.DivisionState (PolynomialOver F) → ℕ → Division
 forget s sugar = record { dividend = s.dividend.map; quotients = maps s.quotients; remainder = s.remainder.map; sugar = sugar }
 
+module _ {F : Field} (L : IsField F) where
+  -- The difference in the ring.
+  pub map_subtract : (f g : PolynomialOver F) → (subtract (polynomial_ring L) f g).map ≡ difference F f.map g.map
+  unfolding difference
+  map_subtract f g = map_add L f ((polynomial_ring L).neg g) ∙ ap (sum F f.map) (map_neg L g)
+
 module _ {key : List ℕ → List ℕ} (K : IsMonomialOrder key) {F : Field} (L : IsField F) where
   abbrev P : abstract.OrderedPolynomials (Element F) Exponents (PolynomialOver F)
   P = ordered_polynomials L K
@@ -106,10 +112,6 @@ module _ {key : List ℕ → List ℕ} (K : IsMonomialOrder key) {F : Field} (L 
 
   abbrev State : Type 0
   State = ring_division.DivisionState (PolynomialOver F)
-
-  map_subtract : (f g : PolynomialOver F) → (subtract (polynomial_ring L) f g).map ≡ difference F f.map g.map
-  unfolding difference
-  map_subtract f g = map_add L f ((polynomial_ring L).neg g) ∙ ap (sum F f.map) (map_neg L g)
 
   member_zero : (qs : List (PolynomialOver F)) (k : ℕ) → get_or (maps qs) k empty ≡ (get_or qs k (polynomial_ring L).zero).map
   member_zero qs k = ap (get_or (maps qs) k) (sym (map_zero L)) ∙ get_or-map (λ q. q.map) qs k (polynomial_ring L).zero
@@ -147,7 +149,7 @@ module _ {key : List ℕ → List ℕ} (K : IsMonomialOrder key) {F : Field} (L 
         quotients = refl;
         remainder = refl;
       }) (λ i. record {
-        dividend = sym (map_subtract s.dividend (ring.mul (term_at L scalar monomial) g) ∙ ap (difference F s.dividend.map) (map_mul L (term_at L scalar monomial) g)) i;
+        dividend = sym (map_subtract L s.dividend (ring.mul (term_at L scalar monomial) g) ∙ ap (difference F s.dividend.map) (map_mul L (term_at L scalar monomial) g)) i;
         quotients = sym (map-set (λ q. q.map) s.quotients k (ring.add (get_or s.quotients k ring.zero) (term_at L scalar monomial))
             ∙ ap (set (maps s.quotients) k) (map_add L (get_or s.quotients k ring.zero) (term_at L scalar monomial) ∙ ap (λ q. sum F q (term_at L scalar monomial).map) (sym (member_zero s.quotients k)))) i;
         remainder = s.remainder.map;
@@ -197,7 +199,7 @@ module _ {key : List ℕ → List ℕ} (K : IsMonomialOrder key) {F : Field} (L 
         quotients = refl;
         remainder = refl;
       }) (λ i. record {
-        dividend = sym (map_subtract s.dividend (term_at L scalar lead) ∙ ap (λ c. difference F s.dividend.map (term c lead.list)) (coefficient-lead K s.dividend.is_polynomial)) i;
+        dividend = sym (map_subtract L s.dividend (term_at L scalar lead) ∙ ap (λ c. difference F s.dividend.map (term c lead.list)) (coefficient-lead K s.dividend.is_polynomial)) i;
         quotients = maps s.quotients;
         remainder = sym (map_add L s.remainder (term_at L scalar lead) ∙ ap (λ c. sum F s.remainder.map (term c lead.list)) (coefficient-lead K s.dividend.is_polynomial)) i;
         sugar = sugar;

@@ -1,5 +1,5 @@
 -- The lead of a polynomial is its greatest monomial, in the sense of the abstract theory too.
-use Rattle.std.proofs.Common.{◌≡◌, ◌≢◌, ◌⊎◌, inl, inr, ℕ, zero, suc, ◌<◌, List, [], ◌∷◌, All, Option, Some, None, unwrap_or, slice_get, nat_cmp, Bool, true, false, IsTrue, Ordering, Less, Equal, Greater, refl, sym, ap, ◌∙◌, subst, arith}
+use Rattle.std.proofs.Common.{◌≡◌, ◌≢◌, ◌⊎◌, inl, inr, ℕ, zero, suc, ◌<◌, List, [], ◌∷◌, All, Some, None, unwrap_or, slice_get, nat_cmp, true, IsTrue, Less, Equal, Greater, refl, sym, ap, ◌∙◌, subst, arith}
 use Rattle.std.proofs.lemmas.List.Elements.{All-cons, All-weaker, All-head}
 use Rattle.std.proofs.lemmas.List.{nil_from_length}
 use Rattle.std.proofs.lemmas.Cmp.{tied_itself}
@@ -12,11 +12,11 @@ use Rattle.fj_algebra.proofs.Polynomial.{lead_unique, lead_nonzero}
 use Rattle.fj_theory.specs.Exponents.{IsExponents, origin, minus, divides}
 use Rattle.fj_theory.specs.MonomialOrder.{IsMonomialOrder, compare_by}
 use Rattle.fj_theory.specs.Polynomial.{Polynomial, IsPolynomial, IsFalling, coefficient, terms_falling, sort_falling, lead}
-use Rattle.fj_theory.specs.Lead.{lead_exponents, lead_coefficient, made_monic}
+use Rattle.fj_theory.specs.Lead.{lead_exponents, lead_coefficient}
 use Rattle.fj_theory.proofs.MonomialOrder.{compare_by_total}
 use Rattle.fj_theory.proofs.Exponents.{IsExponents-origin, IsExponents-minus, plus-minus, divides-plus}
-use Rattle.fj_theory.proofs.Field.{Element, zero_below, rank_zero, element_equal}
-use Rattle.fj_theory.proofs.Polynomial.{coefficient_below, get-coefficient, coefficient-Some, coefficient-empty, IsPolynomial-empty}
+use Rattle.fj_theory.proofs.Field.{rank_zero, element_equal}
+use Rattle.fj_theory.proofs.Polynomial.{coefficient_below, get-coefficient, coefficient-Some, coefficient-empty}
 use Rattle.fj_theory.proofs.Terms.{Falls, Falls-from_IsFalling, find_All, terms_falling-IsFalling, terms_falling-exponents, find-terms_falling, terms_falling-get, from_entries-terms_falling}
 use Rattle.fj_theory.proofs.PolynomialRing.{PolynomialOver, over_equal, polynomial_ring, map_zero}
 use Rattle.fj_theory.proofs.OrderedPolynomials.{Exponents, exponents_equal, times, monomials, monomial_order, scalars, coefficient_at, polynomials, ordered_polynomials}

@@ -29,3 +29,4 @@ pub mod Lead
 pub mod ReducedBasis
 pub mod Steps
 pub mod Division
+pub mod Elimination

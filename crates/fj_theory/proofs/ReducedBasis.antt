@@ -1,26 +1,24 @@
 -- Reduced bases of polynomials are those of the abstract theory, and so they are unique and decide membership.
-use Rattle.std.proofs.Common.{◌≡◌, ◌≢◌, ◌⊎◌, inl, inr, ◌↔◌, ℕ, zero, suc, ◌<◌, Bool, true, false, IsTrue, List, [], ◌∷◌, length, get_or, map, All, Any, Contains, Less, true≢false, refl, sym, ap, ◌∙◌, subst, arith}
+use Rattle.std.proofs.Common.{◌≡◌, ◌≢◌, ◌↔◌, ℕ, zero, suc, ◌<◌, Bool, true, false, IsTrue, List, [], ◌∷◌, get_or, map, All, Contains, Less, true≢false, refl, sym, ap, ◌∙◌, subst, arith}
 use Rattle.std.specs.List.{AllPairs}
 use Rattle.std.specs.FinMap.{empty}
 use Rattle.std.proofs.lemmas.List.{get_or-map, length-map}
-use Rattle.std.proofs.lemmas.List.Elements.{All-nil, All-cons, All-head, All-tail, All-weaker, All-map, All-contains, Contains-get_or}
+use Rattle.std.proofs.lemmas.List.Elements.{All-cons, All-weaker, All-map, All-contains, Contains-get_or}
 use Rattle.std.proofs.lemmas.List.Kept.{AllPairs-cons}
 use Rattle.fj_coeff.specs.Field.{Field, IsField}
-use Rattle.fj_algebra.specs.Ideal as ring_ideal
 use Rattle.fj_algebra.specs.Order as order
 use Rattle.fj_algebra.specs.Polynomial as abstract
 use Rattle.fj_algebra.specs.Buchberger as buchberger
 use Rattle.fj_algebra.specs.ReducedBasis as basis
-use Rattle.fj_algebra.proofs.Order.{below_trans}
-use Rattle.fj_algebra.proofs.Polynomial.{lead_unique, lead_from_monic}
-use Rattle.fj_algebra.proofs.Pairs.{contains_map, contains_map_back, contains_head, contains_tail, AllPairs-head, AllPairs-tail, AllPairs-map, All-from_elements}
+use Rattle.fj_algebra.proofs.Polynomial.{lead_from_monic}
+use Rattle.fj_algebra.proofs.Pairs.{contains_map, contains_map_back, contains_head, AllPairs-head, AllPairs-tail, AllPairs-map, All-from_elements}
 use Rattle.fj_algebra.proofs.Ideal.{Member-same}
 use Rattle.fj_algebra.proofs.Lists.{All-map_back, Any-element}
 use Rattle.fj_algebra.proofs.ReducedBasis as laws
 use Rattle.fj_theory.specs.Exponents.{IsExponents, origin, divides}
 use Rattle.fj_theory.specs.MonomialOrder.{IsMonomialOrder, IsRising, compare_by}
 use Rattle.fj_theory.specs.Polynomial.{Polynomial, IsPolynomial, coefficient, term}
-use Rattle.fj_theory.specs.Ideal.{ArePolynomials, Member, Inside, Equal}
+use Rattle.fj_theory.specs.Ideal.{ArePolynomials, Member, Equal}
 use Rattle.fj_theory.specs.Lead.{lead_exponents, lead_coefficient}
 use Rattle.fj_theory.specs.ReducedBasis.{LeadDivides, IsFreeOf, AreReduced, IsReducedBasis}
 use Rattle.fj_theory.proofs.MonomialOrder.{compare_by_total}

@@ -1,5 +1,5 @@
 -- Laws of runs as lists of states.
-use Rattle.std.proofs.Common.{◌≡◌, ℕ, suc, ◌+◌, ◌≤◌, ◌<◌, List, [], ◌∷◌, ◌++◌, length, refl, sym, ap, ◌∙◌, subst, arith}
+use Rattle.std.proofs.Common.{◌≡◌, ◌+◌, ◌≤◌, List, [], ◌∷◌, length, sym, ◌∙◌, subst, arith}
 use Rattle.fj_theory.specs.Steps.{StepsTo}
 
 module _ {S : Type 0} (Step : S → S → Type 0) where

@@ -14,3 +14,4 @@ pub mod ReducedBasis
 pub mod Steps
 pub mod Division
 pub mod Run
+pub mod Elimination
