@@ -30,3 +30,5 @@ pub mod ReducedBasis
 pub mod Steps
 pub mod Division
 pub mod Elimination
+pub mod Multiple
+pub mod Turns
