@@ -230,12 +230,12 @@ module _ {key : List ℕ → List ℕ} (K : IsMonomialOrder key) {F : Field} (L 
           ∙ All-contains (λ g. divides (lead_exponents key g.polynomial) (lead_exponents key s.dividend.map) ≡ false) G back.0 none back.1)
 
   module _ (G : List Sugared) (X : InRing F (polynomials_of G)) (nonzero : All (λ g. g.map ≢ empty) X.list) where
-    member_map : (k : ℕ) → (member_at G k).polynomial ≡ (get_or X.list k (polynomial_ring L).zero).map
+    pub member_map : (k : ℕ) → (member_at G k).polynomial ≡ (get_or X.list k (polynomial_ring L).zero).map
     unfolding member_at
     member_map k =
         sym (get_or-map (λ g. g.polynomial) G k (record { polynomial = empty; sugar = 0 })) ∙ ap (λ l. get_or l k empty) (sym X.are) ∙ member_zero X.list k
 
-    same_length : length X.list ≡ length G
+    pub same_length : length X.list ≡ length G
     same_length = sym (length-map X.list (λ g. g.map)) ∙ ap length X.are ∙ length-map G (λ g. g.polynomial)
 
     step_over : (s : State) (sugar : ℕ) (t : Division) → IsDivisionStep F key G (forget s sugar) t → StepOver G X.list s sugar t

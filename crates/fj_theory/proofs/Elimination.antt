@@ -37,7 +37,7 @@ use Rattle.fj_theory.proofs.Colon.{IsColon-append, Meet_over, Meet_map, Colon_ma
 use Rattle.fj_theory.proofs.ReducedBasis.{positive, positive_back, exponents_of, IsReducedBasis_polynomials, IsReducedBasis_over, IsReducedBasis_map}
 use Rattle.fj_theory.proofs.Division.{map_subtract}
 
-filter-map : {X Y : Type 0} (f : X → Y) (p : Y → Bool) (xs : List X) → map f (filter (λ x. p (f x)) xs) ≡ filter p (map f xs)
+pub filter-map : {X Y : Type 0} (f : X → Y) (p : Y → Bool) (xs : List X) → map f (filter (λ x. p (f x)) xs) ≡ filter p (map f xs)
 filter-map f p [] = refl
 filter-map f p (x ∷ xs) = go (p (f x)) (filter-map f p xs)
   where

@@ -32,3 +32,4 @@ pub mod Division
 pub mod Elimination
 pub mod Multiple
 pub mod Turns
+pub mod Run
