@@ -33,3 +33,5 @@ pub mod Elimination
 pub mod Multiple
 pub mod Turns
 pub mod Run
+pub mod Sorting
+pub mod Finishing

@@ -8,7 +8,7 @@ use Rattle.fj_theory.proofs.Exponents.{cons_same}
 use Rattle.fj_theory.proofs.OrderedPolynomials.{Exponents, exponents_equal, times, monomials}
 use Rattle.fj_theory.proofs.Lead.{Divides-from_divides, divides-from_Divides}
 
-both : (s t : Bool) → (s && t) ≡ true → (s ≡ true) × (t ≡ true)
+pub both : (s t : Bool) → (s && t) ≡ true → (s ≡ true) × (t ≡ true)
 both true t e = (refl, e)
 both false t e = absurd (true≢false (sym e))
 

@@ -31,12 +31,12 @@ use Rattle.fj_theory.proofs.Ideal.{Equal-trans, Equal-sym}
 use Rattle.fj_theory.proofs.Lead.{lead_at, IsLead-from_lead, lead_from_IsLead, nonzero_map, coefficient-lead, nonzero-lead_coefficient, Divides-from_divides, divides-from_Divides}
 
 -- Pairs of the list behind a map.
-AllPairs-map_back : {X Y : Type 0} (R : X → X → Type 0) (S : Y → Y → Type 0) (f : X → Y) (xs : List X) → ((x y : X) → S (f x) (f y) → R x y) → AllPairs S (map f xs) → AllPairs R xs
+pub AllPairs-map_back : {X Y : Type 0} (R : X → X → Type 0) (S : Y → Y → Type 0) (f : X → Y) (xs : List X) → ((x y : X) → S (f x) (f y) → R x y) → AllPairs S (map f xs) → AllPairs R xs
 AllPairs-map_back R S f xs h all i j d l k =
     h _ _ (subst (λ y. S (f (get_or xs i d)) y) (get_or-map f xs j d (f d) k)
     (subst (λ x. S x (get_or (map f xs) j (f d))) (get_or-map f xs i d (f d) (omega (arith, l, k))) (all i j (f d) l (omega (arith, k, length-map xs f)))))
 
-not_false : (t : Bool) → (IsTrue t → ⊥) → t ≡ false
+pub not_false : (t : Bool) → (IsTrue t → ⊥) → t ≡ false
 not_false true n = absurd (n refl)
 not_false false n = refl
 
@@ -78,7 +78,7 @@ module _ {key : List ℕ → List ℕ} (K : IsMonomialOrder key) {F : Field} (L 
   pub monic_nonzero : (g : PolynomialOver F) → lead_coefficient key g.map ≡ 1 → g.map ≢ empty
   monic_nonzero g e = nonzero-lead_coefficient K g.is_polynomial (omega (arith, e))
 
-  rises_over : (g h : PolynomialOver F) → compare_by key (lead_exponents key g.map) (lead_exponents key h.map) ≡ Less → basis.LeadsRise P g h
+  pub rises_over : (g h : PolynomialOver F) → compare_by key (lead_exponents key g.map) (lead_exponents key h.map) ≡ Less → basis.LeadsRise P g h
   unfolding ordered_polynomials polynomials monomial_order lead_at
   rises_over g h l = record {
     below = λ a b u v. subst (λ b. order.IsBelow (monomial_order K) a b) (sym (lead_from_IsLead K L v)) (subst (λ a. order.IsBelow (monomial_order K) a (lead_at K h.is_polynomial)) (sym (lead_from_IsLead K L u)) (record { is_less = l }));

@@ -47,7 +47,7 @@ inverse_unique R x i j e d =
     sym (R.mul_one i) ∙ ap (R.mul i) (sym d) ∙ sym (R.mul_assoc i x j) ∙ ap (λ u. R.mul u j) (R.mul_comm i x ∙ e) ∙ R.mul_comm R.one j ∙ R.mul_one j
 
 -- Pairs in the lists of pending pairs.
-same_pair : (x i y j : ℕ) → (x == i && y == j) ≡ true → (x ≡ i) × (y ≡ j)
+pub same_pair : (x i y j : ℕ) → (x == i && y == j) ≡ true → (x ≡ i) × (y ≡ j)
 same_pair x i y j e = go (x == i) (y == j) refl refl e
   where
     equal : (x i : ℕ) → (x == i) ≡ true → x ≡ i
@@ -58,7 +58,7 @@ same_pair x i y j e = go (x == i) (y == j) refl refl e
     go true false h k e = absurd (true≢false (sym e))
     go false t h k e = absurd (true≢false (sym e))
 
-zero_from_test : (n : ℕ) → (n == 0) ≡ true → n ≡ 0
+pub zero_from_test : (n : ℕ) → (n == 0) ≡ true → n ≡ 0
 zero_from_test n e = grind (arith, nat_tests)
 
 still_pending : (pairs : List (ℕ × ℕ)) (i j x y : ℕ) → Contains pairs (x, y) → ((x ≡ i) × (y ≡ j)) ⊎ Contains (filter (λ other. not (other.0 == i && other.1 == j)) pairs) (x, y)
@@ -82,10 +82,10 @@ contains_flat_map_back g (z ∷ ys) x c = elim (Contains-append_cases (g z) (fla
   | inr h ↦ (let b = contains_flat_map_back g ys x h in (b.0, contains_tail z ys b.0 b.1, b.2))
 ]
 
-in_range : (n x : ℕ) → x < n → Contains (range_with_len 0 n) x
+pub in_range : (n x : ℕ) → x < n → Contains (range_with_len 0 n) x
 in_range n x l = (x, omega (arith, l, length-range_with_len 0 n), get_or-range_with_len 0 n x x l ∙ omega arith)
 
-of_range : (n x : ℕ) → Contains (range_with_len 0 n) x → x < n
+pub of_range : (n x : ℕ) → Contains (range_with_len 0 n) x → x < n
 of_range n x c = let l : c.0 < n = omega (arith, c.1, length-range_with_len 0 n) in let e = sym c.2 ∙ get_or-range_with_len 0 n c.0 x l in omega (arith, e, l)
 
 in_pairs_with : (n x : ℕ) → x < n → Contains (pairs_with n) (x, n)
@@ -150,32 +150,32 @@ module _ {key : List ℕ → List ℕ} (K : IsMonomialOrder key) {F : Field} (L 
     pub places : (i j : ℕ) → Contains s.pending (i, j) → (i < j) × (j < length over.list)
 
   module _ (M : List (PolynomialOver F)) (s : Run) (kept : IsKept M s) where
-    member : ℕ → PolynomialOver F
+    unfoldable pub member : ℕ → PolynomialOver F
     member k = get_or kept.over.list k (polynomial_ring L).zero
 
-    nonzero : All (λ g. g.map ≢ empty) kept.over.list
+    pub nonzero : All (λ g. g.map ≢ empty) kept.over.list
     nonzero = All-weaker (λ g. lead_coefficient key g.map ≡ 1) (λ g. g.map ≢ empty) (λ g e. monic_nonzero K L g e) kept.over.list kept.monic
 
-    all_monic : buchberger.AllMonic P (Contains kept.over.list)
+    pub all_monic : buchberger.AllMonic P (Contains kept.over.list)
     all_monic = record { lead = λ g c. (lead_at K g.is_polynomial, IsMonic-from_lead K L g (All-contains (λ g. lead_coefficient key g.map ≡ 1) kept.over.list g kept.monic c)) }
 
-    in_members : (k : ℕ) → k < length kept.over.list → Contains kept.over.list (member k)
+    pub in_members : (k : ℕ) → k < length kept.over.list → Contains kept.over.list (member k)
     unfolding member
     in_members k l = Contains-get_or kept.over.list k (polynomial_ring L).zero l
 
-    member_monic : (k : ℕ) → k < length kept.over.list → abstract.IsMonic P (member k) (lead_at K (member k).is_polynomial)
+    pub member_monic : (k : ℕ) → k < length kept.over.list → abstract.IsMonic P (member k) (lead_at K (member k).is_polynomial)
     unfolding lead_at all_monic
     member_monic k l = (all_monic.lead (member k) (in_members k l)).1
 
-    member_is : (k : ℕ) → (member_at s.members k).polynomial ≡ (member k).map
+    pub member_is : (k : ℕ) → (member_at s.members k).polynomial ≡ (member k).map
     unfolding member
     member_is k = member_map K L s.members kept.over nonzero k
 
-    lead_is : (k : ℕ) → lead_of key s.members k ≡ lead_exponents key (member k).map
+    pub lead_is : (k : ℕ) → lead_of key s.members k ≡ lead_exponents key (member k).map
     unfolding lead_of
     lead_is k = ap (lead_exponents key) (member_is k)
 
-    lead : ℕ → Exponents
+    unfoldable pub lead : ℕ → Exponents
     lead k = lead_at K (member k).is_polynomial
 
     -- A pair with coprime leads is settled.

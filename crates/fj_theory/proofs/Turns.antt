@@ -31,7 +31,7 @@ others : {X : Type 0} → List X → List X
 others [] = []
 others (x ∷ xs) = xs
 
-tail_same : {X : Type 0} (x y : X) (xs ys : List X) → x ∷ xs ≡ y ∷ ys → xs ≡ ys
+pub tail_same : {X : Type 0} (x y : X) (xs ys : List X) → x ∷ xs ≡ y ∷ ys → xs ≡ ys
 unfolding others
 tail_same x y xs ys e = ap others e
 
