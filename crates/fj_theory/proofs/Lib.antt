@@ -35,3 +35,4 @@ pub mod Turns
 pub mod Run
 pub mod Sorting
 pub mod Finishing
+pub mod Criterion

@@ -99,6 +99,17 @@ of_pairs_with n x y c =
     let l = of_range n b.0 b.1 in
     (subst (λ i. i < n) (ap (λ p. p.0) b.2) l, sym (ap (λ p. p.1) b.2))
 
+-- The pairs of all places below n.
+pub in_all_pairs : (n i j : ℕ) → i < j → j < n → Contains (flat_map pairs_with (range_with_len 0 n)) (i, j)
+in_all_pairs n i j l k = contains_flat_map pairs_with (range_with_len 0 n) j (i, j) (in_range n j k) (in_pairs_with j i l)
+
+pub of_all_pairs : (n i j : ℕ) → Contains (flat_map pairs_with (range_with_len 0 n)) (i, j) → (i < j) × (j < n)
+of_all_pairs n i j c =
+    let b = contains_flat_map_back pairs_with (range_with_len 0 n) (i, j) c in
+    let l = of_range n b.0 b.1 in
+    let p = of_pairs_with b.0 i j b.2 in
+    (omega (arith, p.0, p.1), omega (arith, l, p.1))
+
 rank_inverse : {F : Field} (L : IsField F) (x : Element F) → 0 < x.rank → ((scalars L).inverse x).rank ≡ F.inverse x.rank
 unfolding scalars
 rank_inverse {F} L x p =
@@ -188,22 +199,23 @@ module _ {key : List ℕ → List ℕ} (K : IsMonomialOrder key) {F : Field} (L 
     }
 
     -- The factor of the member k in the difference of the pair (i, j).
-    factor : ℕ → ℕ → ℕ → Exponents
+    unfoldable pub factor : ℕ → ℕ → ℕ → Exponents
     factor i j k = record {
       list = minus (common_multiple (lead i) (lead j)).list (lead k).list;
       is_exponents = IsExponents-minus (common_multiple (lead i) (lead j)).is_exponents (lead k).is_exponents;
     }
 
-    factor_times : (i j k : ℕ) → order.Divides monomials (lead k) (common_multiple (lead i) (lead j)) → times (factor i j k) (lead k) ≡ common_multiple (lead i) (lead j)
+    pub factor_times : (i j k : ℕ) → order.Divides monomials (lead k) (common_multiple (lead i) (lead j)) → times (factor i j k) (lead k) ≡ common_multiple (lead i) (lead j)
     unfolding factor times
     factor_times i j k d = exponents_equal _ _ (plus_comm _ _ ∙ plus-minus (lead k).is_exponents (common_multiple (lead i) (lead j)).is_exponents (divides-from_Divides d))
 
     -- The difference whose division treats the pair.
-    s_over : ℕ → ℕ → PolynomialOver F
+    unfoldable pub s_over : ℕ → ℕ → PolynomialOver F
+    unfolding ordered_polynomials polynomials
     s_over i j =
-        subtract P.ring (P.ring.mul (P.term P.field.ring.one (unfold ordered_polynomials polynomials in factor i j i)) (member i)) (P.ring.mul (P.term P.field.ring.one (unfold ordered_polynomials polynomials in factor i j j)) (member j))
+        subtract P.ring (P.ring.mul (P.term P.field.ring.one (factor i j i)) (member i)) (P.ring.mul (P.term P.field.ring.one (factor i j j)) (member j))
 
-    s_over-map : (i j : ℕ) → (s_over i j).map ≡ (s_polynomial F key s.members (i, j)).polynomial
+    pub s_over-map : (i j : ℕ) → (s_over i j).map ≡ (s_polynomial F key s.members (i, j)).polynomial
     unfolding s_over s_polynomial ordered_polynomials polynomials scalars term_at factor lead lead_at common_multiple pair_multiple
     s_over-map i j =
         map_subtract L (P.ring.mul (term_at L (field_ring L).one (factor i j i)) (member i)) (P.ring.mul (term_at L (field_ring L).one (factor i j j)) (member j))
@@ -394,15 +406,8 @@ module _ {key : List ℕ → List ℕ} (K : IsMonomialOrder key) {F : Field} (L 
             subst (ring_ideal.Member P.ring M) b.2 (monic_in b.0 (ideal_laws.Member-Contains ((contains_filter is_nonzero M b.0 b.1).0))));
       };
       generates = record { each = All-from_elements (ring_ideal.Member P.ring (map monic_over some)) M (λ f c. generated f c (is_zero_map K f.is_polynomial)) };
-      settled = record {
-        each = λ i j l k. inl (contains_flat_map pairs_with (range_with_len 0 (length (first_members F key (maps M)))) j (i, j)
-            (in_range (length (first_members F key (maps M))) j (omega (arith, k, first_length))) (in_pairs_with j i l));
-      };
-      places = λ i j c.
-          let b = contains_flat_map_back pairs_with (range_with_len 0 (length (first_members F key (maps M)))) (i, j) c in
-          let l = of_range (length (first_members F key (maps M))) b.0 b.1 in
-          let p = of_pairs_with b.0 i j b.2 in
-          (omega (arith, p.0, p.1), omega (arith, l, p.1, first_length));
+      settled = record { each = λ i j l k. inl (in_all_pairs (length (first_members F key (maps M))) i j l (omega (arith, k, first_length))) };
+      places = λ i j c. let p = of_all_pairs (length (first_members F key (maps M))) i j c in (p.0, omega (arith, p.1, first_length));
     }
       where
         has : (f : PolynomialOver F) → Contains some f → f.map ≢ empty
@@ -439,14 +444,20 @@ module _ {key : List ℕ → List ℕ} (K : IsMonomialOrder key) {F : Field} (L 
       let kept = IsRun-IsKept (in_ring A) r in
       subst (All (λ g. lead_coefficient key g ≡ 1)) kept.over.are (All-map (λ g. lead_coefficient key g ≡ 1) (λ g. g.map) kept.over.list kept.monic)
 
+  -- Covered leads, in maps.
+  pub covers_map : {M N : List Polynomial} → ArePolynomials F M → (X : InRing F M) (Y : InRing F N) → buchberger.CoversLeads P X.list (Contains Y.list)
+      → (h : Polynomial) → Member F M h → h ≢ empty → LeadDivides key N (lead_exponents key h)
+  unfolding ordered_polynomials polynomials lead_at
+  covers_map A X Y covers h m n =
+      let H = Member_polynomial L A m in
+      let c = covers.covers (over H) (Member_over L X H m) (λ z. n (ap (λ f. f.map) z ∙ map_zero L)) in
+      subst (λ l. LeadDivides key l (lead_exponents key h)) Y.are
+      (subst (λ a. LeadDivides key (maps Y.list) a.list) (lead_from_IsLead K L c.is_lead) (LeadDivides-from_IsReducible K L Y.list c.lead c.reducible))
+
   -- Where no pair is pending the lead of each nonzero member of the ideal is divided by the lead of a member (Buchberger).
   pub IsRun-covers : {M : List Polynomial} → ArePolynomials F M → {turns : ℕ} {s : Run} → IsRun F key M turns s → s.pending ≡ []
       → (h : Polynomial) → Member F M h → h ≢ empty → LeadDivides key (polynomials_of s.members) (lead_exponents key h)
-  unfolding ordered_polynomials polynomials lead_at
-  IsRun-covers A {s = s} r e h m n =
+  IsRun-covers A {s = s} r e =
       let X = in_ring A in
       let kept = IsRun-IsKept X r in
-      let H = Member_polynomial L A m in
-      let c = (IsKept-covers X.list s kept e).covers (over H) (Member_over L X H m) (λ z. n (ap (λ f. f.map) z ∙ map_zero L)) in
-      subst (λ l. LeadDivides key l (lead_exponents key h)) kept.over.are
-      (subst (λ a. LeadDivides key (maps kept.over.list) a.list) (lead_from_IsLead K L c.is_lead) (LeadDivides-from_IsReducible K L kept.over.list c.lead c.reducible))
+      covers_map A X kept.over (IsKept-covers X.list s kept e)

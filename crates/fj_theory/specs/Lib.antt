@@ -15,3 +15,5 @@ pub mod Steps
 pub mod Division
 pub mod Run
 pub mod Elimination
+pub mod Criterion
+pub mod BasisLaws

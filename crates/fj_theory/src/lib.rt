@@ -3,4 +3,5 @@
 //! `proofs/` the laws that the crates above cite.
 #![tactic(auto)]
 
+pub mod bases;
 pub mod laws;
