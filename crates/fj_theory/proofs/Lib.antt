@@ -36,3 +36,4 @@ pub mod Run
 pub mod Sorting
 pub mod Finishing
 pub mod Criterion
+pub mod Sugar

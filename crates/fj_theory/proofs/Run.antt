@@ -226,7 +226,7 @@ module _ {key : List ℕ → List ℕ} (K : IsMonomialOrder key) {F : Field} (L 
             map_mul L (term_at L (field_ring L).one (factor i j k)) (member k)
             ∙ ap₂ (product F) (ap₂ term (rank_one L) (ap₂ minus (ap₂ least_common_multiple (sym (lead_is i)) (sym (lead_is j))) (sym (lead_is k)))) (sym (member_is k))
 
-    s_polynomial-IsPolynomial : (i j : ℕ) → IsPolynomial F (s_polynomial F key s.members (i, j)).polynomial
+    pub s_polynomial-IsPolynomial : (i j : ℕ) → IsPolynomial F (s_polynomial F key s.members (i, j)).polynomial
     s_polynomial-IsPolynomial i j = subst (IsPolynomial F) (s_over-map i j) (s_over i j).is_polynomial
 
     s_over-Member : (i j : ℕ) → i < length kept.over.list → j < length kept.over.list → ring_ideal.Member P.ring kept.over.list (s_over i j)

@@ -1,6 +1,6 @@
 -- Division of polynomials by a list, as the list of its states (Cox, Little and O'Shea 2015, chapter 2, section 3), with
 -- sugar degrees (Giovini and others 1991, "One sugar cube, please").
-use Rattle.std.specs.Prelude.{◌≡◌, ◌≢◌, ℕ, suc, ◌+◌, ◌<◌, ◌≤◌, ◌^◌, max, if◌then◌else◌, List, [], ◌∷◌, length, map, replicate, set, slice_index_or, Option, Some, None}
+use Rattle.std.specs.Prelude.{◌≡◌, ◌≢◌, ℕ, suc, ◌+◌, ◌<◌, ◌≤◌, ◌^◌, max, if◌then◌else◌, List, [], ◌∷◌, length, map, All, replicate, set, slice_index_or, Option, Some, None}
 use Rattle.std.specs.Option.{option_map}
 use Rattle.std.specs.FinMap.{empty}
 use Rattle.fj_coeff.specs.Field.{Field}
@@ -98,11 +98,16 @@ pub record IsHighDivision (F : Field) (key : List ℕ → List ℕ) (G : List Su
   pub steps : StepsTo (IsDivisionStep F key G) (division_start G h) states reached
   pub high : degree_limit < reached.sugar
 
--- The sugar of a division bounds its state: each term of the dividend and of the remainder has a total of at most the sugar,
--- and so has each term of a quotient together with the sugar of its member.
+-- Each term of the polynomial has a total of at most the bound.
 pub record DegreeAtMost (bound : ℕ) (f : Polynomial) : Type 0 where
   pub within : (a : List ℕ) → 0 < coefficient f a → total a ≤ bound
 
+-- Each polynomial of the list has terms with a total of at most its sugar.
+abbrev pub AreWithinSugars : List Sugared → Type 0
+AreWithinSugars G = All (λ g. DegreeAtMost g.sugar g.polynomial) G
+
+-- The sugar of a division bounds its state: each term of the dividend and of the remainder has a total of at most the sugar,
+-- and so has each term of a quotient together with the sugar of its member.
 pub record IsWithinSugar (G : List Sugared) (s : Division) : Type 0 where
   pub dividend : DegreeAtMost s.sugar s.dividend
   pub remainder : DegreeAtMost s.sugar s.remainder
