@@ -11,6 +11,8 @@ use Rattle.fj_algebra.specs.Polynomial as abstract
 use Rattle.fj_algebra.specs.Buchberger as buchberger
 use Rattle.fj_algebra.specs.Division as ring_division
 use Rattle.fj_algebra.specs.Sugar as ring_sugar
+use Rattle.fj_algebra.specs.Ideal as ring_ideal
+use Rattle.fj_algebra.proofs.Ring.{ring_laws as ring_rules}
 use Rattle.fj_algebra.proofs.Division as ring_laws
 use Rattle.fj_algebra.proofs.Sugar as ring_sugar_laws
 use Rattle.fj_theory.specs.MonomialOrder.{IsMonomialOrder}
@@ -91,6 +93,9 @@ module _ {F : Field} {key : List ℕ → List ℕ} {G : List Sugared} where
 map-replicate : {X Y : Type 0} (f : X → Y) (n : ℕ) (x : X) → map f (replicate n x) ≡ replicate n (f x)
 map-replicate f zero x = refl
 map-replicate f (suc n) x = ap (λ l. f x ∷ l) (map-replicate f n x)
+
+left_over : {A : Type 0} (R : CommutativeRing A) (q r : A) → r ≡ subtract R (R.add q r) q
+left_over R q r = simp (subtract, ring_rules)
 
 -- A state of a division in the ring of polynomials, as a state of maps.
 unfoldable pub forget : {F : Field} → ring_division.DivisionState (PolynomialOver F) → ℕ → Division
@@ -383,6 +388,16 @@ module _ {key : List ℕ → List ℕ} (K : IsMonomialOrder key) {F : Field} (L 
           ap (λ f. f.map) (ring_laws.division_identity P the.division).0 ∙ map_add L _ _
           ∙ ap (λ f. sum F f the.state.remainder.map) (list_combination_map L the.state.quotients ring.list ∙ ap (list_combination F (maps the.state.quotients)) ring.are)
           ∙ ap (λ d. sum F (list_combination F d.quotients (polynomials_of G)) d.remainder) (sym the.is)
+
+      -- The remainder is what the quotients leave of h.
+      pub IsDivision-remainder : last.remainder ≡ difference F h.polynomial (list_combination F last.quotients (polynomials_of G))
+      unfolding forget ordered_polynomials polynomials
+      IsDivision-remainder =
+          let q = ring_ideal.list_combination (polynomial_ring L) the.state.quotients ring.list in
+          ap (λ d. d.remainder) the.is
+          ∙ ap (λ f. f.map) (left_over (polynomial_ring L) q the.state.remainder ∙ ap (λ f. subtract (polynomial_ring L) f q) (sym (ring_laws.division_identity P the.division).0))
+          ∙ map_subtract L (over H) q
+          ∙ ap (difference F h.polynomial) (list_combination_map L the.state.quotients ring.list ∙ ap (list_combination F (maps the.state.quotients)) ring.are ∙ ap (λ d. list_combination F d.quotients (polynomials_of G)) (sym the.is))
 
       -- No term of the remainder is divided by a lead.
       pub IsDivision-reduced : (a : List ℕ) → 0 < coefficient last.remainder a → LeadDivides key (polynomials_of G) a → ⊥

@@ -23,22 +23,23 @@ use Rattle.fj_algebra.proofs.Lists.{Any-element}
 use Rattle.fj_algebra.proofs.Pairs.{contains_head, contains_tail, contains_nil, contains_cons, contains_map, contains_map_back, contains_filter, filter_contains, All-from_elements, AllPairs-head, AllPairs-tail, AllPairs-map}
 use Rattle.fj_theory.specs.Exponents.{IsExponents, divides}
 use Rattle.fj_theory.specs.MonomialOrder.{IsMonomialOrder, compare_by}
-use Rattle.fj_theory.specs.Polynomial.{Polynomial, IsPolynomial}
-use Rattle.fj_theory.specs.Ideal.{ArePolynomials}
+use Rattle.fj_theory.specs.Polynomial.{Polynomial, IsPolynomial, sum}
+use Rattle.fj_theory.specs.Ideal.{ArePolynomials, Member, list_combination}
 use Rattle.fj_theory.specs.ReducedBasis.{IsReducedBasis}
-use Rattle.fj_theory.specs.Lead.{lead_exponents}
+use Rattle.fj_theory.specs.Lead.{lead_exponents, lead_coefficient}
 use Rattle.fj_theory.specs.Steps.{StepsTo}
-use Rattle.fj_theory.specs.Division.{Sugared, polynomials_of, Division, member_at, IsDivision}
-use Rattle.fj_theory.specs.Run.{Run, lead_of, is_left_out, kept_members, sort_by_lead, Replacing, IsReplacement, IsFinished}
+use Rattle.fj_theory.specs.Division.{Sugared, polynomials_of, Division, member_at, IsDivision, IsLowDivision}
+use Rattle.fj_theory.specs.Run.{given, Run, lead_of, is_left_out, kept_members, sort_by_lead, Replacing, IsReplacement, IsFinished}
 use Rattle.fj_theory.proofs.Exponents.{divides_refl, divides_antisymm}
 use Rattle.fj_theory.proofs.Field.{Element}
-use Rattle.fj_theory.proofs.PolynomialRing.{PolynomialOver, over_equal}
+use Rattle.fj_theory.proofs.PolynomialRing.{PolynomialOver, over_equal, sum_empty}
 use Rattle.fj_theory.proofs.OrderedPolynomials.{Exponents, exponents_equal, monomials, polynomials, ordered_polynomials}
-use Rattle.fj_theory.proofs.IdealBridge.{over, maps, InRing, in_ring}
+use Rattle.fj_theory.proofs.IdealBridge.{over, maps, InRing, in_ring, Member_polynomial}
 use Rattle.fj_theory.proofs.Lead.{lead_at, lead_from_IsLead, nonzero_map, Divides-from_divides, divides-from_Divides}
-use Rattle.fj_theory.proofs.ReducedBasis.{AllPairs-map_back, not_false, rises_over, IsReducedBasis_map}
+use Rattle.fj_theory.proofs.ReducedBasis.{AllPairs-map_back, not_false, rises_over, monic_nonzero, IsReducedBasis_polynomials, IsReducedBasis_map}
 use Rattle.fj_theory.proofs.Multiple.{both}
-use Rattle.fj_theory.proofs.Division.{same_length, DivisionOver, division_over, forget}
+use Rattle.fj_theory.proofs.Division.{same_length, DivisionOver, division_over, forget, Member-IsDivision, IsDivision-quotients, division_identity}
+use Rattle.fj_theory.proofs.Ideal.{Member-elements, Member-from_list}
 use Rattle.fj_theory.proofs.Turns.{tail_same}
 use Rattle.fj_theory.proofs.Run.{IsKept, IsRun-IsKept, IsKept-covers, in_range, of_range, member, nonzero, in_members, member_monic, member_is, lead_is, lead}
 use Rattle.fj_theory.proofs.Sorting.{Apart, Rises, HasExponents, All-sort_by_lead, sort_by_lead-has, sort_by_lead-Rises, range_rises}
@@ -357,3 +358,27 @@ module _ {key : List ℕ → List ℕ} (K : IsMonomialOrder key) {F : Field} (L 
       IsReducedBasis_map K L X (record { list = r.list; are = r.are })
       (finishing_laws.finished P (over_inside X.list s kept) (over_monic X.list s kept) (λ i j d l k. (pairs i j d l k).0) (λ i j d l k. (pairs i j d l k).1)
       (over_covers X.list s kept f.none_pending) r.in_turn)
+
+  basis_nonzero : {M N : List Polynomial} → ArePolynomials F N → IsReducedBasis F key M N → All (λ g. g ≢ empty) N
+  basis_nonzero {N = N} B basis = All-from_elements (λ g. g ≢ empty) N
+      (λ g c. monic_nonzero K L (over (All-contains (IsPolynomial F) N g B.each c)) (All-contains (λ g. lead_coefficient key g ≡ 1) N g basis.monic c))
+
+  -- Each polynomial of the list is the sum of quotient * member of the result, by its division in the third act.
+  pub IsFinished-up : {M : List Polynomial} → ArePolynomials F M → {budget : ℕ} {result : List Sugared} → IsFinished F key M budget result
+      → All (λ f. (d : Division) × IsDivision F key result (given f) d × (f ≡ list_combination F d.quotients (polynomials_of result))) M
+  unfolding given
+  IsFinished-up {M} A {result = result} f =
+      All-from_elements (λ f. (d : Division) × IsDivision F key result (given f) d × (f ≡ list_combination F d.quotients (polynomials_of result))) M
+      (λ g c.
+      let basis = IsFinished-IsReducedBasis A f in
+      let B = IsReducedBasis_polynomials K L A basis in
+      let nonzero : All (λ g. g ≢ empty) (polynomials_of result) = basis_nonzero B basis in
+      let H = All-contains (IsPolynomial F) M g A.each c in
+      let low = All-contains (λ f. (d : Division) × IsLowDivision F key result (given f) d) M g f.finishing.divisions c in
+      let d = low.0 in
+      let none = (Member-IsDivision K L result B nonzero {h = given g} H low.1.division A basis).0 (All-contains (Member F M) M g (Member-elements L A) c) in (
+        d,
+        low.1.division,
+        division_identity K L result B nonzero {h = given g} H low.1.division ∙ ap (sum F (list_combination F d.quotients (polynomials_of result))) none
+            ∙ sum_empty L (Member_polynomial L B (Member-from_list L B d.quotients (IsDivision-quotients K L result B nonzero {h = given g} H low.1.division))),
+      ))

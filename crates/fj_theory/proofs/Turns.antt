@@ -172,3 +172,13 @@ module _ {key : List ℕ → List ℕ} where
           let same : turns ≡ f.turns = omega (arith, back, ahead) in
           IsFinishing-IsHighFinishing f.last.members basis f.finishing
           (subst (λ s. IsHighFinishing F key L s.members) (IsRun-unique (subst (λ n. IsRun F key L n last) same r) f.run) high)
+
+      -- A list has one result of a finished run.
+      pub IsFinished-unique : {budget other : ℕ} {basis result : List Sugared} → IsFinished F key L budget basis → IsFinished F key L other result → basis ≡ result
+      IsFinished-unique {basis = basis} {result = result} f g =
+          let back = run_ends (none_pending-IsTurn f.none_pending) f.run g.run in
+          let ahead = run_ends (none_pending-IsTurn g.none_pending) g.run f.run in
+          let same : g.turns ≡ f.turns = omega (arith, back, ahead) in
+          let last = IsRun-unique (subst (λ n. IsRun F key L n g.last) same g.run) f.run in
+          IsReplacing-unique f.last.members basis result f.finishing.replacing
+          (subst (λ s. IsReplacing F key s.members (record { replaced = result; rest = [] })) last g.finishing.replacing)
