@@ -135,7 +135,7 @@ module _ {key : List ℕ → List ℕ} (K : IsMonomialOrder key) {F : Field} (L 
         go false e = no (λ o. true≢false (sym (left_out_back i l o) ∙ e))
 
     -- The members that are kept.
-    kept_is : (w : Sugared) → Contains (kept_members key s.members) w → (i : ℕ) × (i < length kept.over.list) × (is_left_out key s.members i ≡ false) × (member_at s.members i ≡ w)
+    pub kept_is : (w : Sugared) → Contains (kept_members key s.members) w → (i : ℕ) × (i < length kept.over.list) × (is_left_out key s.members i ≡ false) × (member_at s.members i ≡ w)
     unfolding kept_members
     kept_is w c =
         let b = contains_map_back (member_at s.members) (filter (λ i. not (is_left_out key s.members i)) (range_with_len 0 (length s.members))) w c in
@@ -180,7 +180,7 @@ module _ {key : List ℕ → List ℕ} (K : IsMonomialOrder key) {F : Field} (L 
         (AllPairs-filter (λ i j. i < j) (λ i. not (is_left_out key s.members i)) (range_with_len 0 (length s.members)) (range_rises (length s.members)))
 
     -- They are sorted.
-    sorted : List Sugared
+    unfoldable pub sorted : List Sugared
     sorted = sort_by_lead key (kept_members key s.members)
 
     sorted_rises : AllPairs (Rises key) sorted
@@ -192,7 +192,7 @@ module _ {key : List ℕ → List ℕ} (K : IsMonomialOrder key) {F : Field} (L 
     sorted_is = All-sort_by_lead key (λ w. (i : ℕ) × (i < length kept.over.list) × (member_at s.members i ≡ w)) (kept_members key s.members)
         (All-from_elements (λ w. (i : ℕ) × (i < length kept.over.list) × (member_at s.members i ≡ w)) (kept_members key s.members) (λ w c. let k = kept_is w c in (k.0, k.1, k.3)))
 
-    sorted_over : InRing F (polynomials_of sorted)
+    pub sorted_over : InRing F (polynomials_of sorted)
     unfolding the
     sorted_over = in_ring (record {
       each = All-map (IsPolynomial F) (λ g. g.polynomial) sorted
@@ -224,13 +224,13 @@ module _ {key : List ℕ → List ℕ} (K : IsMonomialOrder key) {F : Field} (L 
           (λ w c. let k = over_is w c in subst (ring_ideal.Member P.ring M) k.2 (ideal_laws.Inside-Contains kept.inside (in_members K L M s kept k.0 k.1)));
     }
 
-    over_monic : buchberger.AllMonic P (Contains sorted_over.list)
+    pub over_monic : buchberger.AllMonic P (Contains sorted_over.list)
     unfolding the
     over_monic = record {
       lead = λ w c. let k = over_is w c in subst (λ w. (a : Exponents) × abstract.IsMonic P w a) k.2 (at k.0, unfold at lead in member_monic K L M s kept k.0 k.1);
     }
 
-    over_pairs : AllPairs (λ g h. basis.LeadsRise P g h × finishing.LeadsApart P g h) sorted_over.list
+    pub over_pairs : AllPairs (λ g h. basis.LeadsRise P g h × finishing.LeadsApart P g h) sorted_over.list
     unfolding ordered_polynomials polynomials lead_at
     over_pairs =
         AllPairs-map_back (λ g h. basis.LeadsRise P g h × finishing.LeadsApart P g h)
@@ -248,31 +248,31 @@ module _ {key : List ℕ → List ℕ} (K : IsMonomialOrder key) {F : Field} (L 
     over_covers e = finishing_laws.kept_covers P sorted_over.list left_out_decided over_has (IsKept-covers K L M s kept e)
 
   -- The replacing of members in turn: what is replaced, and the rest.
-  record Between (before rest : List Sugared) (B R : List (PolynomialOver F)) : Type 0 where
-    before_are : maps B ≡ polynomials_of before
-    rest_are : maps R ≡ polynomials_of rest
-    monic : buchberger.AllMonic P (Contains B)
-    rest_monic : buchberger.AllMonic P (Contains R)
-    ahead : (g m : PolynomialOver F) → Contains B g → Contains R m → finishing.LeadsApart P g m
-    rest_apart : AllPairs (finishing.LeadsApart P) R
+  pub record Between (before rest : List Sugared) (B R : List (PolynomialOver F)) : Type 0 where
+    pub before_are : maps B ≡ polynomials_of before
+    pub rest_are : maps R ≡ polynomials_of rest
+    pub monic : buchberger.AllMonic P (Contains B)
+    pub rest_monic : buchberger.AllMonic P (Contains R)
+    pub ahead : (g m : PolynomialOver F) → Contains B g → Contains R m → finishing.LeadsApart P g m
+    pub rest_apart : AllPairs (finishing.LeadsApart P) R
 
-  nonzero_of : {before rest : List Sugared} {B R : List (PolynomialOver F)} → Between before rest B R → All (λ g. g.map ≢ empty) B
+  pub nonzero_of : {before rest : List Sugared} {B R : List (PolynomialOver F)} → Between before rest B R → All (λ g. g.map ≢ empty) B
   unfolding ordered_polynomials polynomials
   nonzero_of {B = B} b = All-from_elements (λ g. g.map ≢ empty) B (λ g c. nonzero_map K L (lead_nonzero P (lead_from_monic P (b.monic.lead g c).1)))
 
   -- One member is replaced.
   module _ (before rest others : List Sugared) (first : Sugared) (B R : List (PolynomialOver F)) (m : PolynomialOver F) (b : Between before rest B (m ∷ R)) (is : rest ≡ first ∷ others)
       (last : Division) (division : IsDivision F key before first last) where
-    first_is : m.map ≡ first.polynomial
+    pub first_is : m.map ≡ first.polynomial
     first_is = ap (λ l. get_or l 0 m.map) (b.rest_are ∙ ap polynomials_of is)
 
-    first_polynomial : IsPolynomial F first.polynomial
+    pub first_polynomial : IsPolynomial F first.polynomial
     first_polynomial = subst (IsPolynomial F) first_is m.is_polynomial
 
     divided : DivisionOver K L before (record { list = B; are = b.before_are }) (nonzero_of b) (over first_polynomial) last
     divided = division_over K L before (record { list = B; are = b.before_are }) (nonzero_of b) first first_polynomial last division
 
-    remains : PolynomialOver F
+    pub remains : PolynomialOver F
     remains = divided.state.remainder
 
     ends : finishing.EndsIn P B m remains
@@ -288,7 +288,7 @@ module _ {key : List ℕ → List ℕ} (K : IsMonomialOrder key) {F : Field} (L 
         finishing_laws.remainder_monic P b.monic (b.rest_monic.lead m (contains_head m R)).1
         (λ g c i l d. (b.ahead g m i (contains_head m R)).apart c _ l (lead_from_monic P (b.rest_monic.lead m (contains_head m R)).1) d) ends
 
-    between : Between (before ++ (record { polynomial = last.remainder; sugar = last.sugar } ∷ [])) others (B ++ (remains ∷ [])) R
+    pub between : Between (before ++ (record { polynomial = last.remainder; sugar = last.sugar } ∷ [])) others (B ++ (remains ∷ [])) R
     unfolding remains forget
     between = record {
       before_are = map-append (λ f. f.map) B (remains ∷ []) ∙ ap₂ (λ xs x. xs ++ (x ∷ [])) b.before_are (ap (λ d. d.remainder) (sym divided.is))

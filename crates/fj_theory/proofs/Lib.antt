@@ -37,3 +37,4 @@ pub mod Sorting
 pub mod Finishing
 pub mod Criterion
 pub mod Sugar
+pub mod Replacing
