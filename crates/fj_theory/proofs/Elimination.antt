@@ -60,7 +60,7 @@ maps_equal (f ∷ M) [] e = let n : suc (length (maps M)) ≡ 0 = ap length e in
 maps_equal (f ∷ M) (g ∷ N) e = ap₂ ◌∷◌ (over_equal f g (ap (λ l. get_or l 0 f.map) e)) (maps_equal M N (ap others e))
 
 module _ {F : Field} (L : IsField F) where
-  unfoldable eighth_over : variable.Variable (polynomials L).monomials
+  unfoldable pub eighth_over : variable.Variable (polynomials L).monomials
   unfolding polynomials
   eighth_over = eighth
 
@@ -79,7 +79,7 @@ module _ {F : Field} (L : IsField F) where
       go a p i h e (yes l) = get_or_past a i 0 (omega (arith, e, l))
       go a p i h e (no n) = let seven : 7 ≡ i = omega (arith, h, n) in subst (λ k. get_or a k 0 ≡ 0) seven (z a p)
 
-  UsesFirst_from_lacks : (f : PolynomialOver F) → variable.Lacks (polynomials L) eighth_over f → UsesFirst 7 f.map
+  pub UsesFirst_from_lacks : (f : PolynomialOver F) → variable.Lacks (polynomials L) eighth_over f → UsesFirst 7 f.map
   unfolding polynomials eighth_over
   UsesFirst_from_lacks f l = at_seven f.is_polynomial (λ a p.
       let at : Exponents = record { list = a; is_exponents = exponents_of L f a p } in sym (eighth_exponent at) ∙ l.within at (positive_back L f at p))
@@ -117,7 +117,7 @@ module _ {F : Field} (L : IsField F) where
       ∙ ap₂ ◌++◌ (multiples_maps L t.is_polynomial I ∙ ap (λ f. multiples F f (maps I)) variable_map)
       (multiples_maps L s.is_polynomial J ∙ ap (λ f. multiples F f (maps J)) (map_subtract L (polynomial_ring L).one t ∙ ap₂ (difference F) (map_one L) variable_map))
 
-  all_lack : {I : List Polynomial} (X : InRing F I) → All (UsesFirst 7) I → All (variable.Lacks (polynomials L) eighth_over) X.list
+  pub all_lack : {I : List Polynomial} (X : InRing F I) → All (UsesFirst 7) I → All (variable.Lacks (polynomials L) eighth_over) X.list
   all_lack X all = All-weaker (λ f. UsesFirst 7 f.map) (variable.Lacks (polynomials L) eighth_over) (λ f u. lacks_over f u) X.list
       (All-map_back (UsesFirst 7) (λ f. f.map) X.list (subst (All (UsesFirst 7)) (sym X.are) all))
 

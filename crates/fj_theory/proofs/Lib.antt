@@ -38,3 +38,4 @@ pub mod Finishing
 pub mod Criterion
 pub mod Sugar
 pub mod Replacing
+pub mod Lacking
