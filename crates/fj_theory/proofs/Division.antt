@@ -1,9 +1,9 @@
 -- Division of polynomials is that of the abstract theory: its identity, its remainder, and what its sugar bounds.
-use Rattle.std.proofs.Common.{◌≡◌, ◌≢◌, inl, inr, ◌↔◌, ℕ, zero, suc, ◌+◌, ◌<◌, ◌≤◌, max, Bool, true, false, cond, IsTrue, List, [], ◌∷◌, length, get_or, set, replicate, map, All, Contains, Option, Some, None, true≢false, refl, sym, ap, ◌∙◌, subst, arith}
+use Rattle.std.proofs.Common.{◌≡◌, ◌≢◌, inl, inr, ◌↔◌, ℕ, zero, suc, ◌+◌, ◌<◌, ◌≤◌, max, Bool, true, false, cond, IsTrue, List, [], ◌∷◌, length, get_or, set, replicate, map, All, Contains, Option, Some, None, true≢false, refl, sym, ap, ◌∙◌, subst, arith, ap₂}
 use Rattle.std.specs.Option.{option_map}
 use Rattle.std.specs.FinMap.{empty}
 use Rattle.std.proofs.lemmas.Option.{none-some, same_Some}
-use Rattle.std.proofs.lemmas.List.Elements.{All-nil, All-cons, All-contains, Contains-get_or}
+use Rattle.std.proofs.lemmas.List.Elements.{All-nil, All-cons, All-contains, Contains-get_or, All-head}
 use Rattle.fj_coeff.specs.Field.{Field, IsField}
 use Rattle.fj_algebra.specs.Ring.{CommutativeRing, subtract}
 use Rattle.fj_algebra.specs.Order as order
@@ -13,11 +13,12 @@ use Rattle.fj_algebra.specs.Division as ring_division
 use Rattle.fj_algebra.specs.Sugar as ring_sugar
 use Rattle.fj_algebra.specs.Ideal as ring_ideal
 use Rattle.fj_algebra.proofs.Ring.{ring_laws as ring_rules}
+use Rattle.fj_algebra.proofs.ExactDivision.{exact_division}
 use Rattle.fj_algebra.proofs.Division as ring_laws
 use Rattle.fj_algebra.proofs.Sugar as ring_sugar_laws
 use Rattle.fj_theory.specs.MonomialOrder.{IsMonomialOrder}
 use Rattle.fj_theory.specs.Exponents.{IsExponents, total, minus, divides}
-use Rattle.fj_theory.specs.Polynomial.{Polynomial, IsPolynomial, coefficient, term, sum}
+use Rattle.fj_theory.specs.Polynomial.{Polynomial, IsPolynomial, coefficient, term, sum, product}
 use Rattle.fj_theory.specs.Ideal.{ArePolynomials, list_combination, Member}
 use Rattle.fj_theory.specs.ReducedBasis.{LeadDivides, IsReducedBasis}
 use Rattle.fj_theory.specs.Lead.{lead_exponents, lead_coefficient}
@@ -96,6 +97,11 @@ map-replicate f (suc n) x = ap (λ l. f x ∷ l) (map-replicate f n x)
 
 left_over : {A : Type 0} (R : CommutativeRing A) (q r : A) → r ≡ subtract R (R.add q r) q
 left_over R q r = simp (subtract, ring_rules)
+
+single : {F : Field} {g : Polynomial} (N : List (PolynomialOver F)) → maps N ≡ g ∷ [] → (f : PolynomialOver F) × (N ≡ f ∷ []) × (f.map ≡ g)
+single {g = g} [] e = let n : 0 ≡ 1 = ap length e in absurd (omega (arith, n))
+single {g = g} (f ∷ []) e = (f, refl, ap (λ l. get_or l 0 f.map) e)
+single {g = g} (f ∷ (k ∷ N)) e = let n : suc (suc (length (maps N))) ≡ 1 = ap length e in absurd (omega (arith, n))
 
 -- A state of a division in the ring of polynomials, as a state of maps.
 unfoldable pub forget : {F : Field} → ring_division.DivisionState (PolynomialOver F) → ℕ → Division
@@ -408,6 +414,17 @@ module _ {key : List ℕ → List ℕ} (K : IsMonomialOrder key) {F : Field} (L 
           let at : Exponents = record { list = a; is_exponents = exponents_of L r a q } in
           (ring_laws.division_remainder P the.division).reduced.within at (positive_back L r at q)
           (IsReducible-from_LeadDivides K L ring.list at (nonzero_over ring) (subst (λ l. LeadDivides key l a) (sym ring.are) d))
+
+      -- A multiple of a polynomial g that is not zero is g times its quotient by g.
+      pub IsDivision-exact : {g : Polynomial} → polynomials_of G ≡ g ∷ [] → Member F (g ∷ []) h.polynomial → h.polynomial ≡ product F g (get_or last.quotients 0 empty)
+      unfolding forget ordered_polynomials polynomials
+      IsDivision-exact {g} e m =
+          let s = single ring.list (ring.are ∙ e) in
+          let division = subst (λ N. ring_division.IsDivision P N (over H) the.state) s.1 the.division in
+          let some : g ≢ empty = All-head (λ g. g ≢ empty) g [] (subst (All (λ g. g ≢ empty)) e nonzero) in
+          ap (λ f. f.map) (exact_division P (λ z. some (sym s.2 ∙ ap (λ f. f.map) z ∙ map_zero L)) (Member_over L (record { list = s.0 ∷ []; are = ap (λ x. x ∷ []) s.2 }) H m) division)
+          ∙ map_mul L s.0 (get_or the.state.quotients 0 (polynomial_ring L).zero)
+          ∙ ap₂ (product F) s.2 (sym (member_zero the.state.quotients 0) ∙ ap (λ d. get_or d.quotients 0 empty) (sym the.is))
 
       -- By a reduced basis the remainder is zero exactly where h is in the ideal.
       pub Member-IsDivision : {M : List Polynomial} → ArePolynomials F M → IsReducedBasis F key M (polynomials_of G) → Member F M h.polynomial ↔ (last.remainder ≡ empty)

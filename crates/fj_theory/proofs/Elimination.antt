@@ -68,7 +68,7 @@ module _ {F : Field} (L : IsField F) where
   eliminates = elim_eliminates
 
   -- A polynomial that uses the first seven variables lacks the eighth.
-  lacks_over : (f : PolynomialOver F) → UsesFirst 7 f.map → variable.Lacks (polynomials L) eighth_over f
+  pub lacks_over : (f : PolynomialOver F) → UsesFirst 7 f.map → variable.Lacks (polynomials L) eighth_over f
   unfolding polynomials eighth_over
   lacks_over f u = record { within = λ a n. eighth_exponent a ∙ u.later a.list (positive L f a n) 7 (omega arith) }
 

@@ -1,5 +1,5 @@
 -- Where a list lacks a variable, so does each reduced basis of its ideal.
-use Rattle.std.proofs.Common.{◌≡◌, ◌≢◌, ◌⊎◌, inl, inr, ℕ, zero, List, All, Contains, sym, ap, ap₂, ◌∙◌, subst}
+use Rattle.std.proofs.Common.{◌≡◌, ◌≢◌, ◌⊎◌, inl, inr, ℕ, zero, List, All, Contains, sym, ap, ap₂, ◌∙◌, subst, arith}
 use native.Mathlib.Decide.{ℕ_discrete}
 use Rattle.std.proofs.lemmas.List.Elements.{All-weaker, All-map}
 use Rattle.fj_coeff.specs.Field.{Field, IsField}
@@ -8,22 +8,28 @@ use Rattle.fj_algebra.specs.Order.{Divides}
 use Rattle.fj_algebra.specs.Polynomial.{OrderedPolynomials, IsLead}
 use Rattle.fj_algebra.specs.Buchberger.{IsReducible}
 use Rattle.fj_algebra.specs.ReducedBasis as basis
-use Rattle.fj_algebra.specs.Variable.{Variable, monomial_power, Lacks, IsPowerCoefficient}
+use Rattle.fj_algebra.specs.Variable.{Variable, Eliminates, monomial_power, Lacks, IsPowerCoefficient}
 use Rattle.fj_algebra.proofs.Ring.{equal_from_subtract, subtract_self}
 use Rattle.fj_algebra.proofs.Ideal.{Member-subtract, Inside-Contains}
 use Rattle.fj_algebra.proofs.Order.{not_below_multiple, one_times, Divides-trans, Divides-refl}
 use Rattle.fj_algebra.proofs.Pairs.{pair_of, All-from_elements}
-use Rattle.fj_algebra.proofs.Polynomial.{coefficient_zero, at_most_lead, coefficient_subtract, coefficient_outside, lead_from_monic, lead_or_zero, lead_nonzero, lead_unique}
+use Rattle.fj_algebra.proofs.Polynomial.{Supported-zero, coefficient_zero, at_most_lead, coefficient_subtract, coefficient_outside, lead_from_monic, lead_or_zero, lead_nonzero, lead_unique}
 use Rattle.fj_algebra.proofs.Variable.{power_coefficient, coefficient_member, exponent_divides}
 use Rattle.fj_theory.specs.MonomialOrder.{IsMonomialOrder}
-use Rattle.fj_theory.specs.Polynomial.{Polynomial}
+use Rattle.fj_theory.specs.Polynomial.{Polynomial, IsPolynomial, product}
 use Rattle.fj_theory.specs.Ideal.{ArePolynomials}
 use Rattle.fj_theory.specs.PointIdeal.{UsesFirst}
 use Rattle.fj_theory.specs.ReducedBasis.{IsReducedBasis}
+use Rattle.std.specs.FinMap.{empty}
+use Rattle.fj_algebra.proofs.Leads.{lead_product}
+use Rattle.fj_algebra.proofs.Elimination.{lacks_from_lead}
+use Rattle.fj_theory.proofs.Keys.{elim_key-IsMonomialOrder}
+use Rattle.fj_theory.proofs.EighthVariable.{elim_eliminates}
+use Rattle.fj_theory.proofs.PolynomialRing.{polynomial_ring, map_zero, map_mul}
 use Rattle.fj_theory.proofs.OrderedPolynomials.{ordered_polynomials, polynomials}
-use Rattle.fj_theory.proofs.IdealBridge.{in_ring}
+use Rattle.fj_theory.proofs.IdealBridge.{over, in_ring}
 use Rattle.fj_theory.proofs.ReducedBasis.{IsReducedBasis_polynomials, IsReducedBasis_over}
-use Rattle.fj_theory.proofs.Elimination.{all_lack, eighth_over, UsesFirst_from_lacks}
+use Rattle.fj_theory.proofs.Elimination.{lacks_over, all_lack, eighth_over, UsesFirst_from_lacks}
 
 module _ {K M A : Type 0} (P : OrderedPolynomials K M A) (t : Variable P.monomials) where
   open P use {coefficient, ring.{zero as 𝟘}, field.ring as scalars, monomials.{times}, order}
@@ -94,6 +100,18 @@ module _ {K M A : Type 0} (P : OrderedPolynomials K M A) (t : Variable P.monomia
     pub reduced_basis_lacks : All (Lacks P.polynomials t) G
     reduced_basis_lacks = All-from_elements (Lacks P.polynomials t) G (λ b i. let m = reduced.monic.lead b i in rest_lacks b i m.0 (lead_from_monic P m.1))
 
+  -- A factor of a polynomial without the variable lacks it.
+  factor_lacks : Eliminates order t → {f g : A} → f ≢ 𝟘 → Lacks P.polynomials t (P.ring.mul f g) → Lacks P.polynomials t g
+  factor_lacks eliminates {f} {g} n l = go (lead_or_zero P f) (lead_or_zero P g)
+    where
+      go : (f ≡ 𝟘) ⊎ ((a : M) × IsLead P f a) → (g ≡ 𝟘) ⊎ ((b : M) × IsLead P g b) → Lacks P.polynomials t g
+      go (inl z) h = absurd (n z)
+      go (inr h) (inl z) = subst (Lacks P.polynomials t) (sym z) (Supported-zero P.polynomials _)
+      go (inr (a, h)) (inr (b, k)) =
+          let whole = l.within (times a b) (lead_product P h k).nonzero in
+          let sum = t.exponent_times a b in
+          lacks_from_lead P t eliminates k (omega (arith, whole, sum))
+
 -- A reduced basis of polynomials that use the first seven variables uses them alone.
 pub IsReducedBasis-UsesFirst : {key : List ℕ → List ℕ} (K : IsMonomialOrder key) {F : Field} (L : IsField F) {M G : List Polynomial} → ArePolynomials F M → All (UsesFirst 7) M
     → IsReducedBasis F key M G → All (UsesFirst 7) G
@@ -104,3 +122,11 @@ IsReducedBasis-UsesFirst K L {M} {G} A uses S =
     subst (All (UsesFirst 7)) Y.are (All-map (UsesFirst 7) (λ f. f.map) Y.list
     (All-weaker (Lacks (polynomials L) (eighth_over L)) (λ f. UsesFirst 7 f.map) (λ f l. UsesFirst_from_lacks L f l) Y.list
     (reduced_basis_lacks (ordered_polynomials L K) (eighth_over L) (all_lack L X uses) (IsReducedBasis_over K L X Y S))))
+
+-- A factor of a polynomial that uses the first seven variables uses them alone.
+pub UsesFirst-product : {F : Field} (L : IsField F) {f g : Polynomial} → IsPolynomial F f → IsPolynomial F g → f ≢ empty → UsesFirst 7 (product F f g) → UsesFirst 7 g
+unfolding ordered_polynomials polynomials eighth_over
+UsesFirst-product {F} L A B n u =
+    UsesFirst_from_lacks L (over B)
+    (factor_lacks (ordered_polynomials L elim_key-IsMonomialOrder) (eighth_over L) elim_eliminates (λ e. n (ap (λ f. f.map) e ∙ map_zero L))
+    (lacks_over L ((polynomial_ring L).mul (over A) (over B)) (subst (UsesFirst 7) (sym (map_mul L (over A) (over B))) u)))
