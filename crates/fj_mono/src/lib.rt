@@ -5,4 +5,4 @@ mod mono;
 mod order;
 
 pub use mono::{High, Mono};
-pub use order::{Grevlex, Lex, Order};
+pub use order::{Elim, Grevlex, Grlex, Lex, Order};

@@ -1,5 +1,5 @@
-ghost use Rattle.std.specs.Prelude.{◌≡◌, ◌+◌, ◌<◌, ◌≤◌, ◌^◌, ◌↔◌, ℕ, List, length, sum, slice_index, All, IfOk, IsErr};
-ghost use Rattle.fj_theory.specs.Exponents.{origin, plus, times};
+ghost use Rattle.std.specs.Prelude.{◌≡◌, ◌+◌, ◌<◌, ◌≤◌, ◌^◌, ◌↔◌, ℕ, List, length, take, sum, slice_index, All, IfOk, IsErr, IsTrue};
+ghost use Rattle.fj_theory.specs.Exponents.{divides, least_common_multiple, minus, origin, plus, times, total};
 
 use std::marker::Model;
 
@@ -69,6 +69,82 @@ impl Mono {
         self.exponents.iter().sum()
     }
 
+    /// The sum of the first exponents.
+    pub(crate) fn front(&self, count: usize) -> u64
+        requires { count ≤ 8 }
+        ensures { result ≡ sum (take count self.now.exponents) }
+    {
+        let mut sum = 0;
+        for i in 0..count {
+            sum += self.exponents[i];
+        }
+        sum
+    }
+
+    /// The product: the exponents are added. `High` exactly where the total passes 2^40.
+    pub fn try_mul(&self, o: &Mono) -> Result<Mono, High>
+        ensures value { IfOk result (λ m. m.exponents ≡ plus self.now.exponents o.now.exponents) }
+        ensures high { IsErr result ↔ (2 ^ 40 < total (plus self.now.exponents o.now.exponents)) }
+    {
+        let mut exponents = [0; 8];
+        for i in 0..8 {
+            exponents[i] = self.exponents[i] + o.exponents[i];
+        }
+        Mono::new(exponents)
+    }
+
+    /// The q-th power: the exponents are multiplied by q. `High` exactly where the total passes 2^40.
+    pub fn try_scale(&self, q: u64) -> Result<Mono, High>
+        ensures value { IfOk result (λ m. m.exponents ≡ times q self.now.exponents) }
+        ensures high { IsErr result ↔ (2 ^ 40 < total (times q self.now.exponents)) }
+    {
+        let degree = self.total().saturating_mul(q);
+        if degree > DEGREE_LIMIT {
+            return Err(High);
+        }
+        let mut exponents = [0; 8];
+        for i in 0..8 {
+            exponents[i] = self.exponents[i] * q;
+        }
+        Ok(Mono { exponents })
+    }
+
+    /// Whether the monomial divides o: each exponent is at most that of o.
+    pub fn divides(&self, o: &Mono) -> bool
+        ensures { result ≡ divides self.now.exponents o.now.exponents }
+    {
+        for i in 0..8 {
+            if self.exponents[i] > o.exponents[i] {
+                return false;
+            }
+        }
+        true
+    }
+
+    /// The quotient by o, which divides the monomial.
+    pub fn quot(&self, o: &Mono) -> Mono
+        requires { IsTrue (divides o.now.exponents self.now.exponents) }
+        ensures { result.exponents ≡ minus self.now.exponents o.now.exponents }
+    {
+        let mut exponents = [0; 8];
+        for i in 0..8 {
+            exponents[i] = self.exponents[i] - o.exponents[i];
+        }
+        Mono { exponents }
+    }
+
+    /// The least common multiple: the greater exponents. `High` exactly where the total passes 2^40.
+    pub fn lcm(&self, o: &Mono) -> Result<Mono, High>
+        ensures value { IfOk result (λ m. m.exponents ≡ least_common_multiple self.now.exponents o.now.exponents) }
+        ensures high { IsErr result ↔ (2 ^ 40 < total (least_common_multiple self.now.exponents o.now.exponents)) }
+    {
+        let mut exponents = [0; 8];
+        for i in 0..8 {
+            exponents[i] = self.exponents[i].max(o.exponents[i]);
+        }
+        Mono::new(exponents)
+    }
+
     /// The quotient b and the residue a of division by q in each exponent: the monomial is the product of the q-th
     /// power of b and of a, and the exponents of a are below q.
     pub fn split(&self, q: u64) -> (Mono, Mono)
@@ -119,5 +195,27 @@ mod tests {
             assert_eq!(rt; quotient.exp(i), b);
             assert_eq!(rt; residue.exp(i), a);
         }
+    }
+
+    // x^3*y*z^2 and x*y^4: product, powers, quotient and least common multiple.
+    #[test]
+    fn products_and_quotients(rt: HostRuntime) -> Result<(), High> {
+        let a = Mono::new([3, 1, 2, 0, 0, 0, 0, 0])?;
+        let b = Mono::new([1, 4, 0, 0, 0, 0, 0, 0])?;
+        let product = Mono::new([4, 5, 2, 0, 0, 0, 0, 0])?;
+        assert!(rt; a.try_mul(&b)? == product);
+        assert!(rt; a.try_scale(3)? == Mono::new([9, 3, 6, 0, 0, 0, 0, 0])?);
+        assert!(rt; a.try_scale(0)? == Mono::one());
+        assert!(rt; a.lcm(&b)? == Mono::new([3, 4, 2, 0, 0, 0, 0, 0])?);
+        assert!(rt; !a.divides(&b));
+        assert!(rt; b.divides(&product));
+        assert!(rt; product.quot(&b) == a);
+        let high = Mono::new([DEGREE_LIMIT, 0, 0, 0, 0, 0, 0, 0])?;
+        assert!(rt; high.try_mul(&Mono::one())? == high);
+        assert!(rt; high.try_mul(&a).is_err());
+        assert!(rt; high.try_scale(u64::MAX).is_err());
+        assert!(rt; high.lcm(&high)? == high);
+        assert!(rt; high.lcm(&b).is_err());
+        Ok(())
     }
 }

@@ -1,5 +1,5 @@
-ghost use Rattle.std.specs.Prelude.{◌≡◌, ◌<◌, ℕ, List};
-ghost use Rattle.fj_theory.specs.MonomialOrder.{IsMonomialOrder, compare_by, lex_key, grevlex_key};
+ghost use Rattle.std.specs.Prelude.{◌≡◌, ◌<◌, ◌≤◌, ℕ, List};
+ghost use Rattle.fj_theory.specs.MonomialOrder.{IsMonomialOrder, compare_by, elim_key, front_sums, grevlex_key, grlex_key, lex_key};
 
 use crate::mono::Mono;
 use std::cmp::Ordering;
@@ -27,9 +27,15 @@ pub trait Order {
 /// The lexicographic order: the first exponent that differs decides.
 pub struct Lex;
 
+/// The graded lexicographic order: the total degree decides, and at equal totals Lex.
+pub struct Grlex;
+
 /// The graded reverse lexicographic order: the total degree decides, and at equal totals the last exponent that
 /// differs, the smaller one being of the greater monomial.
 pub struct Grevlex;
+
+/// An elimination order for the eighth variable: its exponent decides, and at equal ones the other seven in Grevlex.
+pub struct Elim;
 
 impl Order for Lex {
     ghost use Rattle.std.proofs.Common.{rules};
@@ -50,6 +56,25 @@ impl Order for Lex {
     ghost row_below = { Prim.search rules };
 }
 
+impl Order for Grlex {
+    ghost use Rattle.std.proofs.Common.{rules};
+    ghost use Rattle.fj_mono.specs.OrderLaws.{grlex_key-IsMonomialOrder};
+
+    ghost key = { grlex_key };
+
+    ghost ROW = { 1 };
+
+    const ROW: u8 = 1;
+
+    fn cmp(a: &Mono, b: &Mono) -> Ordering {
+        a.total().cmp(&b.total()).then(Lex::cmp(a, b))
+    }
+
+    ghost monomial_order = { grlex_key-IsMonomialOrder };
+
+    ghost row_below = { Prim.search rules };
+}
+
 impl Order for Grevlex {
     ghost use Rattle.std.proofs.Common.{rules};
     ghost use Rattle.fj_mono.specs.OrderLaws.{grevlex_key-IsMonomialOrder};
@@ -60,25 +85,51 @@ impl Order for Grevlex {
 
     const ROW: u8 = 2;
 
-    // The key is compared from its front: the sums of the first k exponents, for k from 8 down to 1.
     fn cmp(a: &Mono, b: &Mono) -> Ordering {
-        let mut left = a.total();
-        let mut right = b.total();
-        let mut count = 8;
-        while count > 0 {
-            if left != right {
-                return left.cmp(&right);
-            }
-            count -= 1;
-            left -= a.exp(count);
-            right -= b.exp(count);
-        }
-        Ordering::Equal
+        compare_fronts(a, b, 8)
     }
 
     ghost monomial_order = { grevlex_key-IsMonomialOrder };
 
     ghost row_below = { Prim.search rules };
+}
+
+impl Order for Elim {
+    ghost use Rattle.std.proofs.Common.{rules};
+    ghost use Rattle.fj_mono.specs.OrderLaws.{elim_key-IsMonomialOrder};
+
+    ghost key = { elim_key };
+
+    ghost ROW = { 3 };
+
+    const ROW: u8 = 3;
+
+    fn cmp(a: &Mono, b: &Mono) -> Ordering {
+        a.exp(7).cmp(&b.exp(7)).then(compare_fronts(a, b, 7))
+    }
+
+    ghost monomial_order = { elim_key-IsMonomialOrder };
+
+    ghost row_below = { Prim.search rules };
+}
+
+// The order by the sums of the first k exponents, for k from the given number down to 1.
+fn compare_fronts(a: &Mono, b: &Mono, variables: usize) -> Ordering
+    requires { variables ≤ 8 }
+    ensures { result ≡ compare_by (front_sums variables) a.now.exponents b.now.exponents }
+{
+    let mut left = a.front(variables);
+    let mut right = b.front(variables);
+    let mut count = variables;
+    while count > 0 {
+        if left != right {
+            return left.cmp(&right);
+        }
+        count -= 1;
+        left -= a.exp(count);
+        right -= b.exp(count);
+    }
+    Ordering::Equal
 }
 
 #[cfg(test)]
@@ -124,7 +175,38 @@ mod tests {
             &low,
             Ordering::Greater,
         );
-        assert_eq!(rt; (Lex::ROW, Grevlex::ROW), (0, 2));
+        // In Grlex x*y^2*z^4 is above x*y*z^5, and both are above x^5*y.
+        let low = Mono::new([1, 1, 5, 0, 0, 0, 0, 0])?;
+        orders::<Grlex>(
+            &rt,
+            &Mono::new([1, 2, 4, 0, 0, 0, 0, 0])?,
+            &low,
+            Ordering::Greater,
+        );
+        orders::<Grlex>(
+            &rt,
+            &Mono::new([5, 1, 0, 0, 0, 0, 0, 0])?,
+            &low,
+            Ordering::Less,
+        );
+        // The eighth variable is above each power of the others, which are in Grevlex.
+        let low = Mono::new([4, 2, 3, 0, 0, 0, 0, 1])?;
+        orders::<Elim>(
+            &rt,
+            &Mono::new([0, 0, 0, 0, 0, 0, 0, 2])?,
+            &low,
+            Ordering::Greater,
+        );
+        orders::<Elim>(
+            &rt,
+            &Mono::new([4, 1, 4, 0, 0, 0, 0, 1])?,
+            &low,
+            Ordering::Less,
+        );
+        assert_eq!(rt;
+            (Lex::ROW, Grlex::ROW, Grevlex::ROW, Elim::ROW),
+            (0, 1, 2, 3)
+        );
         Ok(())
     }
 }

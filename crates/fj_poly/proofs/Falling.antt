@@ -1,11 +1,12 @@
 -- Lists of terms that fall in a monomial order: pushing, replacing and leaving out a term.
-use Rattle.std.proofs.Common.{◌≡◌, ℕ, List, [], ◌∷◌, ◌++◌, length, refl, sym, ap, ◌∙◌, subst, append_assoc, arith}
-use Rattle.std.specs.Ordering.{nat_cmp, ordering_reverse}
+use Rattle.std.proofs.Common.{◌≡◌, ℕ, zero, suc, ◌<◌, get_or, All, List, [], ◌∷◌, ◌++◌, length, sym, ap, ◌∙◌, arith}
+use Rattle.std.proofs.lemmas.List.Elements.{All-head, All-tail}
+use Rattle.std.specs.Ordering.{ordering_reverse}
 use Rattle.std.specs.declared.cmp.Ordering.{Ordering}
 use Rattle.std.specs.declared.cmp.Ordering.TheVariants.{Less, Equal, Greater}
 use Rattle.std.specs.Cmp.{tied_itself}
 use Rattle.fj_coeff.specs.Field.{Field}
-use Rattle.fj_theory.specs.MonomialOrder.{compare_by, IsMonomialOrder}
+use Rattle.fj_theory.specs.MonomialOrder.{compare_by}
 use Rattle.fj_theory.proofs.MonomialOrder.{compare_by_total}
 use Rattle.fj_theory.specs.Polynomial.{IsFalling}
 use Rattle.fj_poly.specs.Terms.{AreTerms}
@@ -74,6 +75,25 @@ module _ (key : List ℕ → List ℕ) where
   pub falling-back : (xs ys : List (List ℕ × ℕ)) → IsFalling key (xs ++ ys) → IsFalling key ys
   falling-back [] ys h = h
   falling-back (x ∷ xs) ys h = falling-back xs ys (falling-tail x (xs ++ ys) h)
+
+  -- A term below all others falls behind them.
+  pub falling-push : (ts : List (List ℕ × ℕ)) (t : List ℕ × ℕ) → IsFalling key ts → All (λ s. compare_by key s.0 t.0 ≡ Greater) ts → IsFalling key (ts ++ t ∷ [])
+  falling-push [] t h below = tt
+  falling-push (s ∷ []) t h below = (All-head (λ s. compare_by key s.0 t.0 ≡ Greater) s [] below, tt)
+  falling-push (s ∷ u ∷ ts) t h below = (h.0, falling-push (u ∷ ts) t h.1 (All-tail (λ s. compare_by key s.0 t.0 ≡ Greater) s (u ∷ ts) below))
+
+  -- The first term is above each later one.
+  falling-first : (t : List ℕ × ℕ) (ts : List (List ℕ × ℕ)) → IsFalling key (t ∷ ts) → (k : ℕ) (d : List ℕ × ℕ) → k < length ts → compare_by key t.0 (get_or ts k d).0 ≡ Greater
+  falling-first t [] h k d l = absurd (omega arith)
+  falling-first t (u ∷ ts) h zero d l = h.0
+  falling-first t (u ∷ ts) h (suc k) d l = above_trans t.0 u.0 (get_or ts k d).0 h.0 (falling-first u ts h.1 k d (omega arith))
+
+  -- A term is above each term at a later place.
+  pub falling-places : (ts : List (List ℕ × ℕ)) → IsFalling key ts → (i j : ℕ) (d : List ℕ × ℕ) → i < j → j < length ts → compare_by key (get_or ts i d).0 (get_or ts j d).0 ≡ Greater
+  falling-places [] h i j d less l = absurd (omega arith)
+  falling-places (t ∷ ts) h i zero d less l = absurd (omega arith)
+  falling-places (t ∷ ts) h zero (suc j) d less l = falling-first t ts h j d (omega arith)
+  falling-places (t ∷ ts) h (suc i) (suc j) d less l = falling-places ts (falling-tail t ts h) i j d (omega arith) (omega arith)
 
 -- The parts of a list of terms.
 pub terms-front : (F : Field) (xs ys : List (List ℕ × ℕ)) → AreTerms F (xs ++ ys) → AreTerms F xs

@@ -3,3 +3,4 @@ pub mod Polynomials
 pub mod Merge
 pub mod View
 pub mod Coefficients
+pub mod Push

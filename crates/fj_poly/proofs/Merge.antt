@@ -1,18 +1,15 @@
 -- The merge of two falling lists of terms: what is merged and the two lists that are left have one sum throughout.
-use Rattle.std.proofs.Common.{◌≡◌, ◌≢◌, ℕ, ◌<◌, List, [], ◌∷◌, ◌++◌, length, refl, sym, ap, ap₂, ◌∙◌, subst, append_assoc, append-nil, arith, nat_cmp, inl, inr, ◌⊎◌}
-use Rattle.std.specs.FinMap.{empty}
-use Rattle.std.specs.declared.cmp.Ordering.TheVariants.{Less, Equal, Greater}
+use Rattle.std.proofs.Common.{◌≡◌, ℕ, ◌<◌, List, [], ◌∷◌, ◌++◌, sym, ap, ap₂, ◌∙◌, subst, append_assoc, append-nil, inl, inr, ◌⊎◌}
+use Rattle.std.specs.declared.cmp.Ordering.TheVariants.{Greater}
 use Rattle.fj_coeff.specs.Field.{Field, IsField}
-use Rattle.fj_theory.specs.Exponents.{IsExponents}
-use Rattle.fj_theory.specs.MonomialOrder.{compare_by, IsMonomialOrder}
-use Rattle.fj_theory.specs.Polynomial.{Polynomial, IsPolynomial, with_coefficients, sum, term}
-use Rattle.fj_theory.proofs.MonomialOrder.{compare_by_exact}
+use Rattle.fj_theory.specs.MonomialOrder.{compare_by}
+use Rattle.fj_theory.specs.Polynomial.{Polynomial, IsPolynomial, sum, term}
 use Rattle.fj_theory.proofs.Polynomial.{IsPolynomial-empty, IsPolynomial-sum, IsPolynomial-term}
 use Rattle.fj_theory.proofs.PolynomialRing.{sum_comm, sum_assoc, sum_empty}
 use Rattle.fj_theory.specs.Polynomial.{IsFalling}
 use Rattle.fj_poly.specs.Terms.{AreTerms}
-use Rattle.fj_poly.proofs.Falling.{above_from_below, falling-tail, falling-replace, falling-exponents, falling-without, falling-front, falling-back, terms-append}
-use Rattle.fj_poly.proofs.Polynomials.{polynomial_of, IsPolynomial-polynomial_of, sum-first, sum-append, polynomial_of-term, sum-terms}
+use Rattle.fj_poly.proofs.Falling.{falling-replace, falling-exponents, falling-without, falling-front, falling-back, terms-append}
+use Rattle.fj_poly.proofs.Polynomials.{polynomial_of, IsPolynomial-polynomial_of, sum-first, sum-append, polynomial_of-term, term-zero, sum-terms}
 
 -- The terms merged so far and the rests of two lists: their sum, that each rest falls behind what is merged, and what
 -- they are lists of.
@@ -23,10 +20,6 @@ pub record Merges (F : Field) (key : List ℕ → List ℕ) (out left right : Li
   pub out_terms : AreTerms F out
   pub left_terms : AreTerms F left
   pub right_terms : AreTerms F right
-
-term_zero : (a : List ℕ) → term 0 a ≡ empty
-unfolding term with_coefficients
-term_zero a = refl
 
 module _ {F : Field} (L : IsField F) where
   is_polynomial : (ts : List (List ℕ × ℕ)) → AreTerms F ts → IsPolynomial F (polynomial_of ts)
@@ -80,7 +73,6 @@ module _ {F : Field} (L : IsField F) where
       ∙ m.total
 
   module _ {key : List ℕ → List ℕ} {out left right : List (List ℕ × ℕ)} {f g : Polynomial} where
-
     -- The first term on the left is above the first on the right, and is merged.
     pub merges-left : (x y : List ℕ × ℕ) → compare_by key x.0 y.0 ≡ Greater
         → Merges F key out (x ∷ left) (y ∷ right) f g → Merges F key (out ++ x ∷ []) left (y ∷ right) f g
@@ -108,8 +100,8 @@ module _ {F : Field} (L : IsField F) where
         let A : IsPolynomial F (polynomial_of left) = is_polynomial left m.left_terms.1 in
         let B : IsPolynomial F (polynomial_of right) = is_polynomial right m.right_terms.1 in
         let first : sum F (polynomial_of (x ∷ [])) (polynomial_of (y ∷ [])) ≡ term (F.add x.1 y.1) x.0 =
-            ap₂ (sum F) (polynomial_of-term L x.0 x.1 m.left_terms.0.1) (polynomial_of-term L y.0 y.1 m.right_terms.0.1 ∙ ap (term y.1) (sym same))
-            ∙ sum-terms L x.0 x.1 y.1 (record { eight = m.left_terms.0.0 }) m.left_terms.0.2 m.right_terms.0.2 in
+        ap₂ (sum F) (polynomial_of-term L x.0 x.1 m.left_terms.0.1) (polynomial_of-term L y.0 y.1 m.right_terms.0.1 ∙ ap (term y.1) (sym same))
+        ∙ sum-terms L x.0 x.1 y.1 (record { eight = m.left_terms.0.0 }) m.left_terms.0.2 m.right_terms.0.2 in
         ap (sum F (polynomial_of out))
         (ap (λ p. sum F p (sum F (polynomial_of left) (polynomial_of right))) (sym first)
         ∙ sym (interchange X A Y B)
@@ -124,10 +116,10 @@ module _ {F : Field} (L : IsField F) where
         let one : AreTerms F (z ∷ []) = ((m.left_terms.0.0, positive, L.add_below x.1 y.1 m.left_terms.0.2 m.right_terms.0.2), tt) in
         let left_falls : IsFalling key ((out ++ z ∷ []) ++ left) = push_falls key out z left (falling-exponents key out x.0 x.1 z.1 left m.left_falls) in
         let right_falls : IsFalling key ((out ++ z ∷ []) ++ right) =
-            push_falls key out z right (falling-exponents key out x.0 y.1 z.1 right (subst (λ a. IsFalling key (out ++ (a, y.1) ∷ right)) (sym same) m.right_falls)) in
+        push_falls key out z right (falling-exponents key out x.0 y.1 z.1 right (subst (λ a. IsFalling key (out ++ (a, y.1) ∷ right)) (sym same) m.right_falls)) in
         record {
           total = ap (λ p. sum F p (sum F (polynomial_of left) (polynomial_of right)))
-                  (push_sum key out z (falling-front key (out ++ z ∷ []) left left_falls) m.out_terms one ∙ ap (sum F (polynomial_of out)) (polynomial_of-term L z.0 z.1 positive))
+              (push_sum key out z (falling-front key (out ++ z ∷ []) left left_falls) m.out_terms one ∙ ap (sum F (polynomial_of out)) (polynomial_of-term L z.0 z.1 positive))
               ∙ sum_assoc L (is_polynomial out m.out_terms) (IsPolynomial-term z.1 one.0.2 (record { eight = m.left_terms.0.0 })) (IsPolynomial-sum L (is_polynomial left m.left_terms.1) (is_polynomial right m.right_terms.1))
               ∙ both_sum x y same m;
           left_falls = left_falls;
@@ -143,7 +135,7 @@ module _ {F : Field} (L : IsField F) where
     merges-neither x y same none m = record {
       total =
           let S : IsPolynomial F (sum F (polynomial_of left) (polynomial_of right)) = IsPolynomial-sum L (is_polynomial left m.left_terms.1) (is_polynomial right m.right_terms.1) in
-          ap (sum F (polynomial_of out)) (sym (ap (λ p. sum F p (sum F (polynomial_of left) (polynomial_of right))) (ap (λ c. term c x.0) none ∙ term_zero x.0) ∙ sum_comm L (IsPolynomial-empty F) S ∙ sum_empty L S))
+          ap (sum F (polynomial_of out)) (sym (ap (λ p. sum F p (sum F (polynomial_of left) (polynomial_of right))) (ap (λ c. term c x.0) none ∙ term-zero x.0) ∙ sum_comm L (IsPolynomial-empty F) S ∙ sum_empty L S))
           ∙ both_sum x y same m;
       left_falls = falling-without key out x left m.left_falls;
       right_falls = falling-without key out y right m.right_falls;

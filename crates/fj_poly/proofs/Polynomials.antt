@@ -1,20 +1,15 @@
 -- Polynomials from lists of terms: they are polynomials, and sums split over lists.
-use Rattle.std.proofs.Common.{All, ◌≡◌, ℕ, zero, suc, ◌<◌, List, [], ◌∷◌, ◌++◌, length, refl, sym, ap, ap₂, ◌∙◌, subst, append_assoc, arith, cond, true, false, Bool, Option, Some, None, ◌==◌, unwrap_or, nat_cmp, inl, inr, ◌⊎◌, ⊎_elim}
-use Rattle.std.specs.FinMap.{FinMap, empty, insert, get, from_entries, find, get-from_entries, get-insert, get-empty, same_map}
+use Rattle.std.proofs.Common.{All, ◌≡◌, ℕ, ◌<◌, List, [], ◌∷◌, ◌++◌, refl, sym, ap, ap₂, ◌∙◌, arith, cond, true, false, Bool, ◌==◌, nat_cmp}
+use Rattle.std.specs.FinMap.{empty, from_entries}
 use Rattle.std.specs.Cmp.Lexicographic.{slice_cmp}
-use Rattle.std.specs.Ordering.{eq_by_cmp}
-use Rattle.std.proofs.lemmas.Cmp.{nat_list_cmp_total}
-use Rattle.std.proofs.lemmas.Map.Lookups.{exact_bytes}
 use Rattle.std.proofs.lemmas.Bool.{cond-false, ne_eqb}
 use Rattle.std.proofs.lemmas.List.Elements.{All-nil, All-cons}
-use Rattle.std.specs.declared.cmp.Ordering.TheVariants.{Less, Equal, Greater}
 use Rattle.fj_coeff.specs.Field.{Field, IsField}
 use Rattle.fj_theory.specs.Exponents.{IsExponents}
-use Rattle.fj_theory.specs.MonomialOrder.{compare_by, IsMonomialOrder}
 use Rattle.fj_theory.specs.Polynomial.{Polynomial, IsPolynomial, IsTerm, coefficient, with_coefficients, sum, term}
 use Rattle.fj_theory.proofs.FormalSum.{same, same_true}
 use Rattle.fj_theory.proofs.Field.{zero_below}
-use Rattle.fj_theory.proofs.Polynomial.{polynomial_equal, coefficient_below, coefficient-get, coefficient-empty, coefficient-term, coefficient-sum, IsPolynomial-empty, IsPolynomial-sum, IsPolynomial-term}
+use Rattle.fj_theory.proofs.Polynomial.{polynomial_equal, coefficient_below, coefficient-empty, coefficient-term, coefficient-sum, IsPolynomial-empty, IsPolynomial-sum, IsPolynomial-term}
 use Rattle.fj_theory.specs.Polynomial.{IsFalling}
 use Rattle.fj_poly.specs.Terms.{AreTerms}
 use Rattle.fj_theory.proofs.Terms.{coefficient-from_entries_cons, IsPolynomial-from_entries}
@@ -42,6 +37,11 @@ coefficient-later key s (t ∷ ts) h = coefficient-from_entries_cons t ts s.0 �
     by : (b : Bool) → same s.0 t.0 ≡ b → coefficient (polynomial_of ts) s.0 ≡ 0 → cond b t.1 (coefficient (polynomial_of ts) s.0) ≡ 0
     by true e later = absurd (above_itself key s.0 t.0 (same_true s.0 t.0 e) h.0)
     by false e later = later
+
+-- A term with the coefficient 0 is zero.
+pub term-zero : (a : List ℕ) → term 0 a ≡ empty
+unfolding term with_coefficients
+term-zero a = refl
 
 module _ {F : Field} (L : IsField F) where
   zero_add : (c : ℕ) → c < F.size → F.add 0 c ≡ c

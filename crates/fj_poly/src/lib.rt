@@ -4,3 +4,6 @@
 mod poly;
 
 pub use poly::{GPoly, Poly};
+
+#[cfg(test)]
+mod tests;

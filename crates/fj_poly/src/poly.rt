@@ -1,7 +1,9 @@
-ghost use Rattle.std.specs.Prelude.{◌≡◌, ◌<◌, ◌↔◌, IfOk, IsTrue, slice_get};
+ghost use Rattle.std.specs.Prelude.{◌≡◌, ◌≢◌, ◌<◌, ◌↔◌, ◌++◌, ◌∷◌, [], All, IfOk, IfErr, IsTrue, length, slice_get};
 ghost use Rattle.std.specs.Option.{option_map};
+ghost use Rattle.std.specs.declared.cmp.Ordering.TheVariants.{Greater};
 ghost use Rattle.std.specs.FinMap.{empty, len};
-ghost use Rattle.fj_theory.specs.Polynomial.{coefficient, degree, lead, sum, term, terms_falling};
+ghost use Rattle.fj_theory.specs.MonomialOrder.{compare_by};
+ghost use Rattle.fj_theory.specs.Polynomial.{IsPolynomial, coefficient, degree, lead, sum, term, terms_falling};
 
 use fj_coeff::Coeff;
 use fj_mono::{Grevlex, Mono, Order};
@@ -43,6 +45,7 @@ impl<K: Coeff, O: Order> Model for Poly<K, O> {
     ghost invariant = { λ p. IsFalling O.key (entries K.rank p.terms.items) × AreTerms K.field (entries K.rank p.terms.items) };
 }
 
+#[tactic(auto, using(crate::proofs::View::polynomial_seen))]
 impl<K: Coeff, O: Order> Poly<K, O> {
     /// The zero polynomial.
     pub fn zero(alloc: Global) -> Poly<K, O>
@@ -56,7 +59,8 @@ impl<K: Coeff, O: Order> Poly<K, O> {
 
     /// The polynomial c*m, which is zero where c is zero.
     pub fn term(alloc: Global, c: K, m: &Mono) -> Result<Poly<K, O>, AllocError>
-        ensures { IfOk result (λ p. p ≡ term (K.rank c) m.now.exponents) }
+        ensures value { IfOk result (λ p. p ≡ term (K.rank c) m.now.exponents) }
+        ensures polynomial { IfOk result (IsPolynomial K.field) }
     {
         let mut terms = Vec::new(alloc);
         if c != K::zero() {
@@ -71,16 +75,36 @@ impl<K: Coeff, O: Order> Poly<K, O> {
         })
     }
 
+    /// Puts the term c*m, which is below all terms in O, at the end.
+    pub fn push_term(&mut self, c: K, m: &Mono) -> Result<(), AllocError>
+        requires nonzero { K.rank c ≢ 0 }
+        requires below { All (λ t. compare_by O.key t.0 m.now.exponents ≡ Greater) (terms_falling O.key self.old) }
+        ensures value { IfOk result (λ _. self.new ≡ sum K.field self.old (term (K.rank c) m.now.exponents)) }
+        ensures terms { IfOk result (λ _. terms_falling O.key self.new ≡ terms_falling O.key self.old ++ (m.now.exponents, K.rank c) ∷ []) }
+        ensures unchanged { IfErr result (λ _. self.new ≡ self.old) }
+        ensures polynomial { IsPolynomial K.field self.new }
+    {
+        self.terms.push(Term {
+            coefficient: c,
+            monomial: *m,
+        })?;
+        Ok(())
+    }
+
     /// The sum.
     pub fn add(&self, alloc: Global, o: &Poly<K, O>) -> Result<Poly<K, O>, AllocError>
-        ensures { IfOk result (λ p. p ≡ sum K.field self.now o.now) }
+        ensures value { IfOk result (λ p. p ≡ sum K.field self.now o.now) }
+        ensures first { IsPolynomial K.field self.now }
+        ensures second { IsPolynomial K.field o.now }
+        ensures polynomial { IfOk result (IsPolynomial K.field) }
     {
         let mut left = self.terms.as_slice();
         let mut right = o.terms.as_slice();
         let mut terms = Vec::with_capacity(alloc, left.len().saturating_add(right.len()))?;
-        'merge: while let (Some((first, others)), Some((second, more))) =
-            (left.split_first(), right.split_first())
-        {
+        'merge: while let (Some((first, others)), Some((second, more))) = (
+            left.split_first(),
+            right.split_first(),
+        ) {
             match O::cmp(&first.monomial, &second.monomial) {
                 Ordering::Greater => {
                     terms.push(*first)?;
@@ -113,16 +137,21 @@ impl<K: Coeff, O: Order> Poly<K, O> {
 
     /// The lead: the coefficient and the monomial of the greatest term in O. `None` exactly for zero.
     pub fn lead(&self) -> Option<(K, Mono)>
-        ensures { option_map (λ found. (found.1.exponents, K.rank found.0)) result ≡ lead O.key self.now }
+        ensures lead { option_map (λ found. (found.1.exponents, K.rank found.0)) result ≡ lead O.key self.now }
+        ensures polynomial { IsPolynomial K.field self.now }
     {
-        self.terms.first().map(|t| (t.coefficient, t.monomial))
+        let t = self.terms.first()?;
+        Some((t.coefficient, t.monomial))
     }
 
     /// The coefficient at m, zero where there is no such term.
     pub fn coeff(&self, m: &Mono) -> K
         ensures { K.rank result ≡ coefficient self.now m.now.exponents }
     {
-        match self.terms.binary_search_by(|t| O::cmp(m, &t.monomial)) {
+        let place = |t: &Term<K>| -> Ordering
+            ensures { result ≡ compare_by O.key m.entry.now.exponents t.now.monomial.exponents }
+        { O::cmp(m, &t.monomial) };
+        match self.terms.binary_search_by(place) {
             Ok(i) => self.terms[i].coefficient,
             Err(_) => K::zero(),
         }
@@ -130,7 +159,8 @@ impl<K: Coeff, O: Order> Poly<K, O> {
 
     /// Whether the polynomial is zero.
     pub fn is_zero(&self) -> bool
-        ensures { IsTrue result ↔ (self.now ≡ empty) }
+        ensures zero { IsTrue result ↔ (self.now ≡ empty) }
+        ensures polynomial { IsPolynomial K.field self.now }
     {
         self.terms.is_empty()
     }
@@ -139,7 +169,12 @@ impl<K: Coeff, O: Order> Poly<K, O> {
     pub fn degree(&self) -> Option<u64>
         ensures { result ≡ degree self.now }
     {
-        self.terms.iter().map(|t| t.monomial.total()).max()
+        let mut greatest = None;
+        for t in self.terms.as_slice() {
+            let total = t.monomial.total();
+            greatest = Some(greatest.map_or(total, |highest| total.max(highest)));
+        }
+        greatest
     }
 
     /// Whether the two polynomials are equal.
@@ -151,7 +186,9 @@ impl<K: Coeff, O: Order> Poly<K, O> {
 
     /// The number of terms.
     pub fn len(&self) -> usize
-        ensures { result ≡ len self.now }
+        ensures count { result ≡ len self.now }
+        ensures terms { result ≡ length (terms_falling O.key self.now) }
+        ensures polynomial { IsPolynomial K.field self.now }
     {
         self.terms.len()
     }
@@ -159,7 +196,8 @@ impl<K: Coeff, O: Order> Poly<K, O> {
     /// The coefficient and the monomial of the term at place i, counted from 0, the terms falling in O.
     pub fn at(&self, i: usize) -> (K, Mono)
         requires { i < len self.now }
-        ensures { slice_get (terms_falling O.key self.now) i ≡ Some (result.1.exponents, K.rank result.0) }
+        ensures term { slice_get (terms_falling O.key self.now) i ≡ Some (result.1.exponents, K.rank result.0) }
+        ensures polynomial { IsPolynomial K.field self.now }
     {
         let t = &self.terms[i];
         (t.coefficient, t.monomial)

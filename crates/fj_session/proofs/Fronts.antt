@@ -1,12 +1,11 @@
 -- What a reader takes from the front of the bytes: texts, words and numbers.
-use Rattle.std.proofs.Common.{◌≡◌, ℕ, zero, suc, ◌+◌, ◌<◌, ◌≤◌, Bool, true, false, not, ◌&&◌, ◌||◌, cond, eqb, ltb, leb, List, [], ◌∷◌, ◌++◌, length, get_or, take, drop, Option, Some, None, refl, sym, ap, subst, ◌∙◌, append_assoc, append-nil, arith, inl, inr}
-use Rattle.std.specs.Prelude.{IsTrue}
+use Rattle.std.proofs.Common.{◌≡◌, ℕ, suc, ◌+◌, ◌<◌, ◌≤◌, Bool, true, false, ◌&&◌, ◌||◌, cond, eqb, ltb, leb, List, [], ◌∷◌, ◌++◌, length, get_or, take, drop, Option, Some, None, refl, sym, ap, subst, ◌∙◌, arith, inl, inr}
 use Rattle.std.specs.Char.{is_ascii_digit}
 use Rattle.std.specs.Int.{is_in_range}
 use Rattle.std.specs.List.{prefix_len, list_all}
 use Rattle.std.specs.Str.{bytes_eq}
 use Rattle.std.proofs.Math.Seq.{take-append_seam, drop-append_seam}
-use Rattle.std.proofs.lemmas.Bool.{cases_Bool, and_parts, and_from, or_cases, or_left, or_right, leb-true, le-leb, ltb-true, lt-ltb}
+use Rattle.std.proofs.lemmas.Bool.{cases_Bool, and_parts, and_from, leb-true, le-leb, ltb-true, lt-ltb}
 use Rattle.std.proofs.lemmas.List.{take-append-drop, length-take-le}
 use Rattle.std.proofs.lemmas.List.Sums.{prefix_len-le-length}
 use Rattle.std.proofs.lemmas.Slice.Eq.{bytes_eq-Decides}
@@ -23,7 +22,7 @@ pub checked_some : {A : Type 0} (b : Bool) (x y : A) → checked b x ≡ Some y 
 checked_some true x y e = (refl, cc)
 checked_some false x y e = absurd cc
 
-abbrev some_of : {A : Type 0} → A → Option A
+abbrev pub some_of : {A : Type 0} → A → Option A
 some_of x = Some x
 
 pub some_is : {A : Type 0} (x y : A) → some_of x ≡ some_of y → x ≡ y
@@ -114,17 +113,19 @@ none_first false a c u h = refl
 digit_is_byte : (b : ℕ) → is_word_byte b ≡ false → is_ascii_digit b ≡ false
 digit_is_byte b h = none_first (is_in_range 48 57 b) (is_in_range 65 90 b) (is_in_range 97 122 b) (eqb b 95) h
 
+pub front_number : (bytes : List ℕ) (n : ℕ) → n ≡ prefix_len is_ascii_digit bytes → 0 < n → n ≤ 4 → IsNumber (take n bytes)
+front_number bytes n e some few =
+    let size : length (take n bytes) ≡ n = length-take-le n bytes (omega (arith, prefix_len-le-length is_ascii_digit bytes)) in
+    record { digit = subst (λ (m : ℕ). list_all is_ascii_digit (take m bytes) ≡ true) (sym e) (front_passes is_ascii_digit bytes); some = omega arith; few = omega arith }
+
 pub number_takes : (bytes : List ℕ) (x : List ℕ × List ℕ) → number_at bytes ≡ Some x → (bytes ≡ x.0 ++ x.1) × IsNumber x.0
 unfolding number_at
 number_takes bytes x e =
     let n = prefix_len is_ascii_digit bytes in
     let h = checked_some (ltb 0 n && leb n 4) (take n bytes, drop n bytes) x e in
     let counts = and_parts (ltb 0 n) (leb n 4) h.0 in
-    let some : 0 < n = ltb-true _ _ counts.0 in
-    let few : n ≤ 4 = leb-true _ _ counts.1 in
-    let size : length (take n bytes) ≡ n = length-take-le n bytes (prefix_len-le-length is_ascii_digit bytes) in
     subst (λ (y : List ℕ × List ℕ). (bytes ≡ y.0 ++ y.1) × IsNumber y.0) h.1
-      (front_takes is_ascii_digit bytes, record { digit = front_passes is_ascii_digit bytes; some = omega arith; few = omega arith })
+    (front_takes is_ascii_digit bytes, front_number bytes n refl (ltb-true _ _ counts.0) (leb-true _ _ counts.1))
 
 pub number_again : (digits rest : List ℕ) → IsNumber digits → EndsWord rest → number_at (digits ++ rest) ≡ Some (digits, rest)
 unfolding number_at

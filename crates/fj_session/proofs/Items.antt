@@ -1,5 +1,5 @@
 -- Items with a text between each two: what is read is spelled so, and what is spelled so is read.
-use Rattle.std.proofs.Common.{◌≡◌, ℕ, zero, suc, ◌+◌, ◌<◌, ◌≤◌, Bool, true, false, cond, eqb, List, [], ◌∷◌, ◌++◌, length, get_or, map, Option, Some, None, refl, sym, ap, subst, ◌∙◌, append_assoc, ◌⊎◌, inl, inr, arith}
+use Rattle.std.proofs.Common.{◌≡◌, ℕ, zero, suc, ◌+◌, ◌<◌, ◌≤◌, false, eqb, List, [], ◌∷◌, ◌++◌, length, get_or, map, Option, Some, None, refl, sym, ap, subst, ◌∙◌, append_assoc, ◌⊎◌, inl, inr, arith}
 use Rattle.std.specs.List.{AllByRecursion, flat_map}
 use Rattle.std.specs.Option.{option_map_or}
 use Rattle.fj_session.specs.Form.{joined}
@@ -46,9 +46,9 @@ more_takes s laws between (suc n) bytes x e =
           let first = laws.takes found.0 a.0 a.1 in
           let others = more_takes s laws between n a.0.1 b.0 b.1 in
           let whole : bytes ≡ further between (map s.text (a.0.0 ∷ b.0.0)) ++ b.0.1 =
-              after_takes between bytes found.0 found.1 ∙ ap (λ t. between ++ t) (first.0 ∙ ap (λ t. s.text a.0.0 ++ t) others.parts) ∙ simp (← append_assoc) in
+          after_takes between bytes found.0 found.1 ∙ ap (λ t. between ++ t) (first.0 ∙ ap (λ t. s.text a.0.0 ++ t) others.parts) ∙ simp (← append_assoc) in
           subst (λ (y : List s.Item × List ℕ). TakesFurther s between (suc n) bytes y) (some_is (a.0.0 ∷ b.0.0, b.0.1) x b.2)
-            (record { parts = whole; good = (first.1, others.good); few = omega (arith, others.few) })
+          (record { parts = whole; good = (first.1, others.good); few = omega (arith, others.few) })
     ]
 
 -- an item ends before a further one, and before what comes after all
@@ -82,8 +82,12 @@ listed_takes s laws between n bytes x e =
     let first = laws.takes bytes a.0 a.1 in
     let others = more_takes s laws between n a.0.1 b.0 b.1 in
     subst (λ (y : List s.Item × List ℕ). TakesListed s between n bytes y) (some_is (a.0.0 ∷ b.0.0, b.0.1) x b.2)
-      (record { parts = first.0 ∙ ap (λ t. s.text a.0.0 ++ t) others.parts ∙ sym (append_assoc (s.text a.0.0) (further between (map s.text b.0.0)) b.0.1);
-        good = (first.1, others.good); some = omega arith; few = omega (arith, others.few) })
+    (record {
+      parts = first.0 ∙ ap (λ t. s.text a.0.0 ++ t) others.parts ∙ sym (append_assoc (s.text a.0.0) (further between (map s.text b.0.0)) b.0.1);
+      good = (first.1, others.good);
+      some = omega arith;
+      few = omega (arith, others.few);
+    })
 
 pub listed_again : (s : Items) → AreItems s → (c : ℕ) (text : List ℕ) (n : ℕ) (xs : List s.Item) (rest : List ℕ) → AllByRecursion s.Good xs → 0 < length xs → length xs ≤ n + 1 → s.Ends c → s.Ends (get_or rest 0 0) → eqb (get_or rest 0 0) c ≡ false
     → listed s.read (c ∷ text) n (joined (c ∷ text) (map s.text xs) ++ rest) ≡ Some (xs, rest)

@@ -1,5 +1,15 @@
+pub mod Digits
+pub mod Exponents
 pub mod Fronts
+pub mod Found
+pub mod Gathered
 pub mod Items
 pub mod KnownBytes
+pub mod ListLoop
 pub mod Lines
+pub mod Places
+pub mod TermLoop
 pub mod Terms
+pub mod Texts
+pub mod AnswerTexts
+pub mod Declared

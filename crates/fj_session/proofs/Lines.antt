@@ -1,30 +1,22 @@
 -- The lines of a form, and the form: what is read is spelled so, and what is spelled so is read.
-use Rattle.std.proofs.Common.{◌≡◌, ℕ, zero, suc, ◌+◌, ◌^◌, ◌<◌, ◌≤◌, Bool, true, false, not, ◌&&◌, ◌||◌, cond, eqb, leb, ltb, List, [], ◌∷◌, ◌++◌, length, get_or, map, Option, Some, None, refl, sym, ap, subst, ◌∙◌, append_assoc, append-nil, inl, inr, arith, rules}
+use Rattle.std.proofs.Common.{◌≡◌, ℕ, ◌^◌, ◌<◌, ◌≤◌, Bool, true, false, not, ◌&&◌, eqb, leb, List, [], ◌∷◌, ◌++◌, length, get_or, map, Some, refl, sym, ap, subst, ◌∙◌, append_assoc, append-nil, inl, inr, arith}
 use Rattle.std.specs.Prelude.{codes, decimal}
-use Rattle.std.specs.Char.{is_ascii_digit}
-use Rattle.std.specs.List.{AllByRecursion, IsDistinct, list_all, list_any}
+use Rattle.std.specs.List.{AllByRecursion, IsDistinct, list_any}
 use Rattle.std.specs.Str.{bytes_eq}
 use Rattle.std.specs.Str.Parse.{digits_value}
 use Rattle.std.proofs.lemmas.Bool.{and_parts, and_from, or_cases, or_parts, or_from, eqb-true, eqb-false, ne_eqb, not-true, not_from_false, leb-true, le-leb}
-use Rattle.std.proofs.lemmas.Fmt.{decimal-digits_value, decimal_is_IsNumeral, digits_decimal, digits_value-decimal, length-decimal-le, decimal_nonempty, first_decimal}
+use Rattle.std.proofs.lemmas.Fmt.{decimal-digits_value, digits_decimal, digits_value-decimal, length-decimal-le, decimal_nonempty, first_decimal}
 use Rattle.std.proofs.lemmas.List.{map-id, nil_from_length}
 use Rattle.std.proofs.lemmas.Slice.Eq.{bytes_eq-Decides}
 use Rattle.std.proofs.lemmas.Bool.Decides.{same_from_decides, Decides-like}
-use Rattle.std.proofs.lemmas.Str.Parse.{IsNumeralModel, numerals_by_value, digits_value_short}
-use Rattle.fj_session.specs.Form.{TermText, FormText, primes, IsWord, IsNumber, IsTerm, IsForm, is_prime, is_among, is_word_byte, joined, term_text, spelling, ring_line, poly_line, ask_line}
+use Rattle.fj_session.specs.Form.{TermText, FormText, primes, IsWord, IsNumber, IsTerm, IsForm, is_prime, is_among, is_word_byte, joined, term_text, spelling}
 use Rattle.fj_session.specs.Reading.{◌>>=◌, checked, after, word_at, number_at, listed, prime_at, are_distinct, variables_at, ring_line_at, terms_at, poly_line_at, ask_line_at, form_at}
+use Rattle.fj_session.proofs.Digits.{numerals, number_small}
 use Rattle.fj_session.proofs.Fronts.{bind_some, checked_some, some_is, after_takes, after_again, word_takes, word_again, number_takes, number_again, EndsWord}
 use Rattle.fj_session.proofs.Items.{Items, AreItems, listed_takes, listed_again}
 use Rattle.fj_session.proofs.Terms.{terms, terms_are}
 
 -- ---- the prime
-
--- the digits of a number, and their value
-pub numerals : IsNumeralModel (λ ds. list_all is_ascii_digit ds ≡ true) (digits_value 10)
-numerals = numerals_by_value (λ ds. list_all is_ascii_digit ds ≡ true) (search rules)
-
-pub number_small : (digits : List ℕ) → IsNumber digits → digits_value 10 digits < 10 ^ 4
-number_small digits h = digits_value_short numerals digits 4 h.digit h.few
 
 first_of : (xs ys bytes : List ℕ) → bytes ≡ xs ++ ys → 0 < length xs → get_or bytes 0 0 ≡ get_or xs 0 0
 first_of [] ys bytes e some = absurd (omega arith)
@@ -85,24 +77,24 @@ none_same_from : (word : List ℕ) (ws : List (List ℕ)) → AllByRecursion (λ
 none_same_from word [] h = refl
 none_same_from word (w ∷ ws) h = or_from (bytes_eq word w) (list_any (bytes_eq word) ws) h.0 (none_same_from word ws h.1)
 
-distinct_takes : (ws : List (List ℕ)) → are_distinct ws ≡ true → IsDistinct bytes_eq ws
-unfolding IsDistinct
-distinct_takes [] h = tt
-distinct_takes (w ∷ ws) h =
-    let both = and_parts (not (list_any (bytes_eq w) ws)) (are_distinct ws) h in
-    (none_same w ws (not-true _ both.0), distinct_takes ws both.1)
-
-distinct_again : (ws : List (List ℕ)) → IsDistinct bytes_eq ws → are_distinct ws ≡ true
-unfolding IsDistinct
-distinct_again [] h = refl
-distinct_again (w ∷ ws) h = and_from (not (list_any (bytes_eq w) ws)) (are_distinct ws) (not_from_false _ (none_same_from w ws h.0)) (distinct_again ws h.1)
-
 bytes_eq_sym : (a b : List ℕ) → bytes_eq a b ≡ bytes_eq b a
 bytes_eq_sym a b = same_from_decides (bytes_eq a b) (bytes_eq b a) (bytes_eq-Decides a b) (Decides-like (bytes_eq b a) sym sym (bytes_eq-Decides b a))
 
 among_is : (name : List ℕ) (ws : List (List ℕ)) → is_among ws name ≡ list_any (bytes_eq name) ws
 among_is name [] = refl
 among_is name (w ∷ ws) = rw (bytes_eq_sym w name, among_is name ws) refl
+
+distinct_takes : (ws : List (List ℕ)) → are_distinct ws ≡ true → IsDistinct bytes_eq ws
+unfolding IsDistinct
+distinct_takes [] h = tt
+distinct_takes (w ∷ ws) h =
+    let both = and_parts (not (is_among ws w)) (are_distinct ws) h in
+    (none_same w ws (sym (among_is w ws) ∙ not-true _ both.0), distinct_takes ws both.1)
+
+distinct_again : (ws : List (List ℕ)) → IsDistinct bytes_eq ws → are_distinct ws ≡ true
+unfolding IsDistinct
+distinct_again [] h = refl
+distinct_again (w ∷ ws) h = and_from (not (is_among ws w)) (are_distinct ws) (not_from_false _ (among_is w ws ∙ none_same_from w ws h.0)) (distinct_again ws h.1)
 
 record TakesVariables (bytes : List ℕ) (x : List (List ℕ) × List ℕ) : Type 0 where
   parts : bytes ≡ joined (codes ", ") x.0 ++ x.1
@@ -118,7 +110,7 @@ variables_take bytes x e =
     let h = checked_some (are_distinct a.0.0) a.0 x a.2 in
     let list = listed_takes words words_are (codes ", ") 6 bytes a.0 a.1 in
     subst (λ (y : List (List ℕ) × List ℕ). TakesVariables bytes y) h.1
-      (record { parts = list.parts ∙ ap (λ ws. joined (codes ", ") ws ++ a.0.1) (map-id a.0.0); words = list.good; some = list.some; few = omega (arith, list.few); distinct = distinct_takes a.0.0 h.0 })
+    (record { parts = list.parts ∙ ap (λ ws. joined (codes ", ") ws ++ a.0.1) (map-id a.0.0); words = list.good; some = list.some; few = omega (arith, list.few); distinct = distinct_takes a.0.0 h.0 })
 
 variables_again : (ws : List (List ℕ)) (rest : List ℕ) → AllByRecursion IsWord ws → 0 < length ws → length ws ≤ 7 → IsDistinct bytes_eq ws → EndsWord rest → eqb (get_or rest 0 0) 44 ≡ false
     → variables_at (joined (codes ", ") ws ++ rest) ≡ Some (ws, rest)
@@ -138,18 +130,18 @@ two_parts bytes first rest second last e h = e ∙ ap (λ s. first ++ s) h ∙ s
 five_parts : (a b c d e rest : List ℕ) → ((((a ++ b) ++ c) ++ d) ++ e) ++ rest ≡ a ++ (b ++ (c ++ (d ++ (e ++ rest))))
 five_parts a b c d e rest = simp append_assoc
 
-abbrev ring_text : ℕ → List (List ℕ) → List ℕ
+abbrev pub ring_text : ℕ → List (List ℕ) → List ℕ
 ring_text prime variables = codes "ring " ++ decimal prime ++ codes " " ++ joined (codes ", ") variables ++ codes "\n"
 
-record TakesRing (bytes : List ℕ) (x : (ℕ × List (List ℕ)) × List ℕ) : Type 0 where
-  parts : bytes ≡ ring_text x.0.0 x.0.1 ++ x.1
-  prime : is_prime x.0.0 ≡ true
-  words : AllByRecursion IsWord x.0.1
-  some : 0 < length x.0.1
-  few : length x.0.1 ≤ 7
-  distinct : IsDistinct bytes_eq x.0.1
+pub record TakesRing (bytes : List ℕ) (x : (ℕ × List (List ℕ)) × List ℕ) : Type 0 where
+  pub parts : bytes ≡ ring_text x.0.0 x.0.1 ++ x.1
+  pub prime : is_prime x.0.0 ≡ true
+  pub words : AllByRecursion IsWord x.0.1
+  pub some : 0 < length x.0.1
+  pub few : length x.0.1 ≤ 7
+  pub distinct : IsDistinct bytes_eq x.0.1
 
-ring_takes : (bytes : List ℕ) (x : (ℕ × List (List ℕ)) × List ℕ) → ring_line_at bytes ≡ Some x → TakesRing bytes x
+pub ring_takes : (bytes : List ℕ) (x : (ℕ × List (List ℕ)) × List ℕ) → ring_line_at bytes ≡ Some x → TakesRing bytes x
 unfolding ring_line_at
 ring_takes bytes x e =
     let a = bind_some (after (codes "ring ") bytes) (λ ring. prime_at ring >>= λ prime. after (codes " ") prime.1 >>= λ blank. variables_at blank >>= λ variables. after (codes "\n") variables.1 >>= λ rest. Some ((prime.0, variables.0), rest)) x e in
@@ -165,7 +157,7 @@ ring_takes bytes x e =
     let e4 = two_parts bytes (codes "ring " ++ decimal b.0.0 ++ codes " ") c.0 (joined (codes ", ") d.0.0) d.0.1 e3 variables.parts in
     let e5 = two_parts bytes (codes "ring " ++ decimal b.0.0 ++ codes " " ++ joined (codes ", ") d.0.0) d.0.1 (codes "\n") f.0 e4 (after_takes (codes "\n") d.0.1 f.0 f.1) in
     subst (λ (y : (ℕ × List (List ℕ)) × List ℕ). TakesRing bytes y) (some_is ((b.0.0, d.0.0), f.0) x f.2)
-      (record { parts = e5; prime = prime.1; words = variables.words; some = variables.some; few = variables.few; distinct = variables.distinct })
+    (record { parts = e5; prime = prime.1; words = variables.words; some = variables.some; few = variables.few; distinct = variables.distinct })
 
 ring_again : (prime : ℕ) (ws : List (List ℕ)) (rest : List ℕ) → is_prime prime ≡ true → AllByRecursion IsWord ws → 0 < length ws → length ws ≤ 7 → IsDistinct bytes_eq ws
     → ring_line_at (ring_text prime ws ++ rest) ≡ Some ((prime, ws), rest)
@@ -203,7 +195,7 @@ poly_takes variables bytes x e =
     let e4 = two_parts bytes (codes "poly " ++ b.0.0 ++ codes " = ") c.0 (joined (codes "+") (map term_text d.0.0)) d.0.1 e3 list.parts in
     let e5 = two_parts bytes (codes "poly " ++ b.0.0 ++ codes " = " ++ joined (codes "+") (map term_text d.0.0)) d.0.1 (codes "\n") f.0 e4 (after_takes (codes "\n") d.0.1 f.0 f.1) in
     subst (λ (y : (List ℕ × List TermText) × List ℕ). TakesPoly variables bytes y) (some_is ((b.0.0, d.0.0), f.0) x f.2)
-      (record { parts = e5; word = word.1; terms = list.good; some = list.some; few = omega (arith, list.few) })
+    (record { parts = e5; word = word.1; terms = list.good; some = list.some; few = omega (arith, list.few) })
 
 poly_again : (variables : List (List ℕ)) (name : List ℕ) (ts : List TermText) (rest : List ℕ) → IsWord name → AllByRecursion (IsTerm variables) ts → 0 < length ts → length ts ≤ 1000
     → poly_line_at variables (poly_text name ts ++ rest) ≡ Some ((name, ts), rest)
@@ -213,8 +205,13 @@ poly_again variables name ts rest word good some few =
     let sum = joined (codes "+") (map term_text ts) ++ end in
     let is = codes " = " ++ sum in
     ap (poly_line_at variables) (five_parts (codes "poly ") name (codes " = ") (joined (codes "+") (map term_text ts)) (codes "\n") rest)
-    ∙ rw (after_again (codes "poly ") (name ++ is), word_again name is word refl, after_again (codes " = ") sum,
-        listed_again (terms variables) (terms_are variables) 43 [] 999 ts end good some (omega arith) ((refl, refl), refl) ((refl, refl), refl) refl, after_again (codes "\n") rest) refl
+    ∙ rw (
+      after_again (codes "poly ") (name ++ is),
+      word_again name is word refl,
+      after_again (codes " = ") sum,
+      listed_again (terms variables) (terms_are variables) 43 [] 999 ts end good some (omega arith) ((refl, refl), refl) ((refl, refl), refl) refl,
+      after_again (codes "\n") rest,
+    ) refl
 
 abbrev ask_text : List ℕ → List ℕ
 ask_text name = codes "ask parts 1 " ++ name ++ codes "\n"
@@ -252,9 +249,9 @@ pub form_takes : (bytes : List ℕ) (f : FormText) → form_at bytes ≡ Some f 
 unfolding form_at IsDistinct made_form
 form_takes bytes f e =
     let a = bind_some (checked (leb (length bytes) 1048576) bytes) (λ short. ring_line_at short >>= λ ring. poly_line_at ring.0.1 ring.1 >>= λ poly. ask_line_at poly.0.0 poly.1 >>= λ rest.
-        checked (is_ended ring.0.1 poly.0.0 rest) (made_form ring.0.0 ring.0.1 poly.0.0 poly.0.1)) f e in
+    checked (is_ended ring.0.1 poly.0.0 rest) (made_form ring.0.0 ring.0.1 poly.0.0 poly.0.1)) f e in
     let b = bind_some (ring_line_at a.0) (λ ring. poly_line_at ring.0.1 ring.1 >>= λ poly. ask_line_at poly.0.0 poly.1 >>= λ rest.
-        checked (is_ended ring.0.1 poly.0.0 rest) (made_form ring.0.0 ring.0.1 poly.0.0 poly.0.1)) f a.2 in
+    checked (is_ended ring.0.1 poly.0.0 rest) (made_form ring.0.0 ring.0.1 poly.0.0 poly.0.1)) f a.2 in
     let ring = ring_takes a.0 b.0 b.1 in
     let prime = b.0.0.0 in
     let variables = b.0.0.1 in
@@ -270,12 +267,24 @@ form_takes bytes f e =
     let nothing : d.0 ≡ [] = nil_from_length d.0 (eqb-true _ _ both.0) in
     let front = two_parts a.0 (ring_text prime variables) b.0.1 (poly_text name sum) c.0.1 ring.parts poly.parts in
     let whole : bytes ≡ spelling (made_form prime variables name sum) =
-        short.1 ∙ two_parts a.0 (ring_text prime variables ++ poly_text name sum) c.0.1 (ask_text name) d.0 front ask
-        ∙ ap (λ rest. ((ring_text prime variables ++ poly_text name sum) ++ ask_text name) ++ rest) nothing ∙ append-nil ((ring_text prime variables ++ poly_text name sum) ++ ask_text name) in
+    short.1 ∙ two_parts a.0 (ring_text prime variables ++ poly_text name sum) c.0.1 (ask_text name) d.0 front ask
+    ∙ ap (λ rest. ((ring_text prime variables ++ poly_text name sum) ++ ask_text name) ++ rest) nothing ∙ append-nil ((ring_text prime variables ++ poly_text name sum) ++ ask_text name) in
     let apart = none_same name variables (sym (among_is name variables) ∙ not-true _ both.1) in
-    subst (λ (g : FormText). IsForm g × (bytes ≡ spelling g)) ended.1
-      (record { prime = ring.prime; variables = ring.words; some_variables = ring.some; few_variables = ring.few; name = poly.word; distinct = (apart, ring.distinct);
-        terms = poly.terms; some_terms = poly.some; few_terms = poly.few; short = subst (λ (s : List ℕ). length s ≤ 1048576) whole (leb-true _ _ short.0) }, whole)
+    subst (λ (g : FormText). IsForm g × (bytes ≡ spelling g)) ended.1 (
+      record {
+        prime = ring.prime;
+        variables = ring.words;
+        some_variables = ring.some;
+        few_variables = ring.few;
+        name = poly.word;
+        distinct = (apart, ring.distinct);
+        terms = poly.terms;
+        some_terms = poly.some;
+        few_terms = poly.few;
+        short = subst (λ (s : List ℕ). length s ≤ 1048576) whole (leb-true _ _ short.0);
+      },
+      whole,
+    )
 
 form_read : (f : FormText) (bytes : List ℕ) → IsForm f → bytes ≡ spelling f → form_at bytes ≡ Some f
 unfolding form_at IsDistinct
@@ -284,11 +293,15 @@ form_read f bytes good e =
     let sum = poly_text f.name f.terms ++ last in
     let short : leb (length bytes) 1048576 ≡ true = le-leb _ _ (subst (λ (s : List ℕ). length s ≤ 1048576) (sym e) good.short) in
     let ring : ring_line_at bytes ≡ Some ((f.prime, f.variables), sum) =
-        ap ring_line_at (three_lines bytes (ring_text f.prime f.variables) (poly_text f.name f.terms) (ask_text f.name) e)
-        ∙ ring_again f.prime f.variables sum good.prime good.variables good.some_variables good.few_variables good.distinct.1 in
+    ap ring_line_at (three_lines bytes (ring_text f.prime f.variables) (poly_text f.name f.terms) (ask_text f.name) e)
+    ∙ ring_again f.prime f.variables sum good.prime good.variables good.some_variables good.few_variables good.distinct.1 in
     let apart : is_among f.variables f.name ≡ false = among_is f.name f.variables ∙ none_same_from f.name f.variables good.distinct.0 in
     rw (short, ring, poly_again f.variables f.name f.terms last good.name good.terms good.some_terms good.few_terms, ask_again f.name [], apart) refl
 
 -- a form that is spelled is read
 pub form_again : (f : FormText) → IsForm f → form_at (spelling f) ≡ Some f
 form_again f good = form_read f (spelling f) good refl
+
+-- no text is the spelling of two forms
+pub one_form : (first second : FormText) → IsForm first → IsForm second → spelling first ≡ spelling second → first ≡ second
+one_form first second good also same = some_is first second (sym (form_again first good) ∙ ap form_at same ∙ form_again second also)

@@ -1,4 +1,7 @@
 pub mod Form
+pub mod Held
 pub mod Memory
 pub mod Outside
 pub mod Reading
+pub mod Text
+pub mod Answer

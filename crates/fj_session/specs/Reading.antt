@@ -1,12 +1,17 @@
--- Reading a form from left to right. A reader answers what stands at the front of the bytes, and the bytes after it.
-use Rattle.std.specs.Prelude.{◌≡◌, ℕ, zero, suc, ◌==◌, Bool, true, ◌&&◌, not, nat_lt, nat_le, if◌then◌else◌, List, [], ◌∷◌, ◌++◌, length, take, drop, slice_index, Result, Ok, Err, None, Some, codes}
+-- Reading a form from left to right, as the code does. A reader answers what stands at the front of the bytes, and the
+-- bytes after it. What a form is stands in `Form`; that this reads exactly the forms is proved, and part of `read_form`.
+use Rattle.std.specs.Prelude.{◌≡◌, ℕ, zero, suc, ◌==◌, Bool, true, ◌&&◌, not, nat_lt, nat_le, if◌then◌else◌, List, [], ◌∷◌, ◌++◌, length, map, take, drop, slice_index, Result, Ok, Err, None, Some, codes}
 use Rattle.std.specs.declared.option.Option.{Option}
 use Rattle.std.specs.Char.{is_ascii_digit}
-use Rattle.std.specs.List.{list_any, prefix_len}
-use Rattle.std.specs.Option.{option_map_or}
+use Rattle.std.specs.List.{prefix_len, position_or_len}
+use Rattle.std.specs.Option.{option_map, option_map_or}
 use Rattle.std.specs.Str.{bytes_eq}
 use Rattle.std.specs.Str.Parse.{digits_value}
-use Rattle.fj_session.specs.Form.{PowerText, TermText, FormText, is_prime, is_word_start, is_word_byte, is_among, degree}
+use Rattle.std.specs.Borrow.{Bor}
+use Rattle.std.specs.Global.{Vec}
+use Rattle.fj_session.specs.declared.form.FormFault.{FormFault}
+use Rattle.fj_session.specs.declared.form.FormFault.TheVariants as faults
+use Rattle.fj_session.specs.Form.{PowerText, TermText, FormText, is_prime, is_word_start, is_word_byte, is_among, value_or_one, degree}
 
 infixl 10 ◌>>=◌
 abbrev pub ◌>>=◌ : {A B : Type 0} → Option A → (A → Option B) → Option B
@@ -16,6 +21,32 @@ None >>= f = None
 -- the value, where the test passes
 abbrev pub checked : {A : Type 0} → Bool → A → Option A
 checked test x = if test then Some x else None
+
+-- What a function returned, seen by view, is what a reader answers.
+abbrev pub ReadsAs : {X Y : Type 0} → (X → Y) → Option X → Option Y → Type 0
+ReadsAs view None read = read ≡ None
+ReadsAs view (Some x) read = read ≡ Some (view x)
+
+-- The same of a function that may want memory.
+abbrev pub Gives : {X Y : Type 0} → (X → Y) → Result X FormFault → Option Y → Type 0
+Gives view (Ok x) read = read ≡ Some (view x)
+Gives view (Err faults.Form) read = read ≡ None
+Gives view (Err faults.Memory) read = Unit {0}
+
+-- The same of an item and the bytes after it.
+abbrev pub ReadsItem : {X Y : Type 0} → (X → Y) → Option (X × Bor (List ℕ)) → Option (Y × List ℕ) → Type 0
+ReadsItem view result read = ReadsAs (λ x. (view x.0, x.1.now)) result read
+
+abbrev pub GivesItem : {X Y : Type 0} → (X → Y) → Result (X × Bor (List ℕ)) FormFault → Option (Y × List ℕ) → Type 0
+GivesItem view result read = Gives (λ x. (view x.0, x.1.now)) result read
+
+-- the bytes of each word
+abbrev pub words_of : List (Vec ℕ) → List (List ℕ)
+words_of words = map (λ w. w.items) words
+
+-- the item as another sees it
+abbrev pub map_item : {X Y : Type 0} → (X → Y) → Option (X × List ℕ) → Option (Y × List ℕ)
+map_item view read = option_map (λ x. (view x.0, x.1)) read
 
 -- what comes after a text
 unfoldable pub after : List ℕ → List ℕ → Option (List ℕ)
@@ -35,9 +66,9 @@ number_at bytes = checked (nat_lt 0 (prefix_len is_ascii_digit bytes) && nat_le 
 unfoldable pub more : {X : Type 0} → (List ℕ → Option (X × List ℕ)) → List ℕ → ℕ → List ℕ → Option (List X × List ℕ)
 more item between zero bytes = Some ([], bytes)
 more item between (suc n) bytes = option_map_or (λ rest. do
-    first ← item rest
-    others ← more item between n first.1
-    Some (first.0 ∷ others.0, others.1)) (after between bytes) (Some ([], bytes))
+  first ← item rest
+  others ← more item between n first.1
+  Some (first.0 ∷ others.0, others.1)) (after between bytes) (Some ([], bytes))
 
 -- an item, and up to n more
 abbrev pub listed : {X : Type 0} → (List ℕ → Option (X × List ℕ)) → List ℕ → ℕ → List ℕ → Option (List X × List ℕ)
@@ -56,7 +87,7 @@ prime_at bytes = do
 
 abbrev pub are_distinct : List (List ℕ) → Bool
 are_distinct [] = true
-are_distinct (word ∷ words) = not (list_any (bytes_eq word) words) && are_distinct words
+are_distinct (word ∷ words) = not (is_among words word) && are_distinct words
 
 unfoldable pub variables_at : List ℕ → Option (List (List ℕ) × List ℕ)
 variables_at bytes = do
@@ -74,29 +105,51 @@ ring_line_at bytes = do
 
 -- ---- the second line
 
--- a variable with its exponent, where one follows
-abbrev pub exponent_at : List ℕ → List ℕ → Option (PowerText × List ℕ)
-exponent_at variable bytes = option_map_or (λ rest. do
-    digits ← number_at rest
-    Some (record { variable = variable; exponent = Some digits.0 }, digits.1)) (after (codes "^") bytes) (Some (record { variable = variable; exponent = None }, bytes))
+-- an exponent, where one follows
+unfoldable pub exponent_at : List ℕ → Option (Option (List ℕ) × List ℕ)
+exponent_at bytes = option_map_or (λ rest. do
+  digits ← number_at rest
+  Some (Some digits.0, digits.1)) (after (codes "^") bytes) (Some (None, bytes))
 
 unfoldable pub power_at : List (List ℕ) → List ℕ → Option (PowerText × List ℕ)
 power_at variables bytes = do
   word ← word_at bytes
   known ← checked (is_among variables word.0) word
-  exponent_at known.0 known.1
+  exponent ← exponent_at known.1
+  Some (record { variable = known.0; exponent = exponent.0 }, exponent.1)
+
+-- the place of a variable among all
+abbrev pub place_of : List (List ℕ) → List ℕ → ℕ
+place_of variables word = position_or_len (λ v. bytes_eq v word) variables
+
+-- a power as the place of its variable and its exponent
+abbrev pub power_value : List (List ℕ) → PowerText → ℕ × ℕ
+power_value variables p = (place_of variables p.variable, value_or_one p.exponent)
 
 -- a coefficient, or else a power
 unfoldable pub first_factor_at : List (List ℕ) → List ℕ → Option (TermText × List ℕ)
 first_factor_at variables bytes = option_map_or (λ digits. Some (record { coefficient = Some digits.0; powers = [] }, digits.1)) (number_at bytes) (do
-    power ← power_at variables bytes
-    Some (record { coefficient = None; powers = power.0 ∷ [] }, power.1))
+  power ← power_at variables bytes
+  Some (record { coefficient = None; powers = power.0 ∷ [] }, power.1))
+
+abbrev pub is_small : TermText → Bool
+is_small t = nat_le (degree t.powers) 1000
+
+-- a first factor of a degree that isn't too high
+unfoldable pub small_factor_at : List (List ℕ) → List ℕ → Option (TermText × List ℕ)
+small_factor_at variables bytes = do
+  first ← first_factor_at variables bytes
+  checked (is_small first.0) first
+
+-- a term with more powers
+abbrev pub with_powers : TermText → List PowerText → TermText
+with_powers t others = record { coefficient = t.coefficient; powers = t.powers ++ others }
 
 unfoldable pub term_at : List (List ℕ) → List ℕ → Option (TermText × List ℕ)
 term_at variables bytes = do
   first ← first_factor_at variables bytes
   others ← more (power_at variables) (codes "*") (length bytes) first.1
-  checked (nat_le (degree (first.0.powers ++ others.0)) 1000) (record { coefficient = first.0.coefficient; powers = first.0.powers ++ others.0 }, others.1)
+  checked (is_small (with_powers first.0 others.0)) (with_powers first.0 others.0, others.1)
 
 unfoldable pub terms_at : List (List ℕ) → List ℕ → Option (List TermText × List ℕ)
 terms_at variables bytes = listed (term_at variables) (codes "+") 999 bytes

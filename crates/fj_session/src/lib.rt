@@ -1,5 +1,13 @@
 //! Sessions: what is read, what is answered, and what is written.
 #![tactic(auto)]
 
+mod answer;
+mod form;
 mod input;
 pub mod outside;
+mod scan;
+mod sum;
+mod term;
+mod text;
+
+pub use form::one_reading;

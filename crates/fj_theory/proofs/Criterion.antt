@@ -17,13 +17,13 @@ use Rattle.fj_algebra.proofs.Representation.{Representation-add, Representation-
 use Rattle.fj_algebra.proofs.Criteria.{Settled-from_least, covers_from_settled}
 use Rattle.fj_algebra.proofs.Pending.{all_settled}
 use Rattle.fj_theory.specs.MonomialOrder.{IsMonomialOrder, compare_by}
-use Rattle.fj_theory.specs.Exponents.{plus}
+use Rattle.fj_theory.specs.Exponents.{plus, least_common_multiple}
 use Rattle.fj_theory.specs.Polynomial.{Polynomial}
 use Rattle.fj_theory.specs.Ideal.{ArePolynomials, Member, combination}
 use Rattle.fj_theory.specs.ReducedBasis.{LeadDivides}
 use Rattle.fj_theory.specs.Lead.{lead_exponents, lead_coefficient}
 use Rattle.fj_theory.specs.Division.{Sugared, polynomials_of}
-use Rattle.fj_theory.specs.Run.{Run, pairs_with, pair_multiple, least_common_multiple}
+use Rattle.fj_theory.specs.Run.{Run, pairs_with, pair_multiple}
 use Rattle.fj_theory.specs.Criterion.{IsSettled, AllSettled}
 use Rattle.fj_theory.proofs.Field.{Element, field_ring}
 use Rattle.fj_theory.proofs.PolynomialRing.{PolynomialOver, over_equal, polynomial_ring}

@@ -56,7 +56,8 @@ total-plus [] [] e = refl
 total-plus [] (y ∷ b) e = absurd (omega arith)
 total-plus (x ∷ a) [] e = absurd (omega arith)
 total-plus (x ∷ a) (y ∷ b) e =
-    total-cons (x + y) (plus a b) ∙ add_four x y (total a) (total b) _ (total-plus a b (omega arith)) ∙ sym (ap₂ ◌+◌ (total-cons x a) (total-cons y b))
+    total-cons (x + y) (plus a b) ∙ add_four x y (total a) (total b) _ (total-plus a b (omega arith))
+    ∙ sym (ap₂ ◌+◌ (total-cons x a) (total-cons y b))
 
 pub plus_cancel_lists : (a b c : List ℕ) → length a ≡ length b → length a ≡ length c → plus a b ≡ plus a c → b ≡ c
 unfolding plus
@@ -129,7 +130,8 @@ times_suc q (x ∷ a) = cons_same (omega arith) (times_suc q a)
 pub total-times : (q : ℕ) (a : List ℕ) → total (times q a) ≡ q * total a
 unfolding times
 total-times q [] = omega arith
-total-times q (x ∷ a) = total-cons (q * x) (times q a) ∙ ap (λ k. q * x + k) (total-times q a) ∙ sym (mul-add q x (total a)) ∙ ap (λ k. q * k) (sym (total-cons x a))
+total-times q (x ∷ a) = total-cons (q * x) (times q a) ∙ ap (λ k. q * x + k) (total-times q a) ∙ sym (mul-add q x (total a))
+    ∙ ap (λ k. q * k) (sym (total-cons x a))
 
 times_cancel_step : (q x y : ℕ) → 0 < q → q * x ≡ q * y → x ≡ y
 times_cancel_step q x y h e = sym (mul-div_cancel_left x h) ∙ ap (λ k. k / q) e ∙ mul-div_cancel_left y h

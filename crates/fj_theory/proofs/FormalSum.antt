@@ -94,11 +94,14 @@ module _ {A B : Type 0} {R : CommutativeRing A} {S : CommutativeRing B} {w : Lis
       rest : B
       rest = weigh S w (others b es)
 
-      by : (t : Bool) → same b e.0 ≡ t → w e.0 e.1 ⊕ (w b c ⊕ rest) ≡ w b (R.add (cond t e.1 R.zero) c) ⊕ weigh S w (cond (not t) (e ∷ others b es) (others b es))
-      by true same = ap (λ a. w a e.1 ⊕ (w b c ⊕ rest)) (sym (same_true b e.0 same)) ∙ sym (add_assoc S _ _ _) ∙ ap (λ v. v ⊕ rest) (sym (W.keeps_add b e.1 c))
+      by : (t : Bool) → same b e.0 ≡ t
+          → w e.0 e.1 ⊕ (w b c ⊕ rest) ≡ w b (R.add (cond t e.1 R.zero) c) ⊕ weigh S w (cond (not t) (e ∷ others b es) (others b es))
+      by true same = ap (λ a. w a e.1 ⊕ (w b c ⊕ rest)) (sym (same_true b e.0 same)) ∙ sym (add_assoc S _ _ _)
+          ∙ ap (λ v. v ⊕ rest) (sym (W.keeps_add b e.1 c))
       by false same = add_left_comm S (w e.0 e.1) (w b c) rest ∙ ap (λ x. w b x ⊕ (w e.0 e.1 ⊕ rest)) (sym (zero_add R c))
 
-coefficient_in_others : {A : Type 0} (R : CommutativeRing A) (b : List ℕ) (es : FormalSum A) → coefficient_in R es b ≡ R.zero → (a : List ℕ) → coefficient_in R (others b es) a ≡ coefficient_in R es a
+coefficient_in_others : {A : Type 0} (R : CommutativeRing A) (b : List ℕ) (es : FormalSum A) → coefficient_in R es b ≡ R.zero → (a : List ℕ)
+    → coefficient_in R (others b es) a ≡ coefficient_in R es a
 coefficient_in_others R b es none a =
     let w = at_exponents-IsAdditive R a in
     sym (weigh_split w b es ∙ ap (λ x. R.add (at_exponents R a b x) (coefficient_in R (others b es) a)) none ∙ ap (λ x. R.add x (coefficient_in R (others b es) a)) (weight_zero w b) ∙ zero_add R _)
@@ -128,13 +131,15 @@ module _ {A B : Type 0} {R : CommutativeRing A} {S : CommutativeRing B} {w : Lis
   weigh-opposite : (es : FormalSum A) → weigh S w (opposite R es) ≡ S.neg (weigh S w es)
   unfolding opposite
   weigh-opposite es =
-      sum_over-map S (λ e. w e.0 e.1) (λ e. (e.0, R.neg e.1)) es ∙ sum_over-same S (λ e. w e.0 (R.neg e.1)) (λ e. S.neg (w e.0 e.1)) (λ e. weight_neg W e.0 e.1) es ∙ sum_over-neg S (λ e. w e.0 e.1) es
+      sum_over-map S (λ e. w e.0 e.1) (λ e. (e.0, R.neg e.1)) es
+      ∙ sum_over-same S (λ e. w e.0 (R.neg e.1)) (λ e. S.neg (w e.0 e.1)) (λ e. weight_neg W e.0 e.1) es ∙ sum_over-neg S (λ e. w e.0 e.1) es
 
   weigh-difference : (es fs : FormalSum A) → weigh S w (es ++ opposite R fs) ≡ S.add (weigh S w es) (S.neg (weigh S w fs))
   weigh-difference es fs = sum_over-append S (λ e. w e.0 e.1) es (opposite R fs) ∙ ap (S.add (weigh S w es)) (weigh-opposite fs)
 
 -- A weight that is additive in the coefficient depends on the coefficients alone.
-pub weigh_same : {A B : Type 0} {R : CommutativeRing A} {S : CommutativeRing B} {w : List ℕ → A → B} → IsAdditive R S w → (es fs : FormalSum A) → ((a : List ℕ) → coefficient_in R es a ≡ coefficient_in R fs a) → weigh S w es ≡ weigh S w fs
+pub weigh_same : {A B : Type 0} {R : CommutativeRing A} {S : CommutativeRing B} {w : List ℕ → A → B} → IsAdditive R S w → (es fs : FormalSum A)
+    → ((a : List ℕ) → coefficient_in R es a ≡ coefficient_in R fs a) → weigh S w es ≡ weigh S w fs
 weigh_same {R} {S} {w} W es fs e =
     let both : FormalSum _ = es ++ opposite R fs in
     equal_from_subtract S _ _ (sym (weigh-difference W es fs) ∙ weigh_none W (length both) both (omega arith)

@@ -4,11 +4,11 @@ use Rattle.std.specs.FinMap.{empty}
 use Rattle.std.proofs.Math.Nat.{pow-zero}
 use Rattle.std.proofs.lemmas.Bool.{true≢false}
 use Rattle.std.proofs.lemmas.List.Elements.{All-from_recursion, All-contains}
-use Rattle.fj_coeff.specs.Field as field
 use Rattle.fj_coeff.specs.Field.{Field, IsField, primes}
-use Rattle.fj_algebra.specs.Ring.{CommutativeRing}
-use Rattle.fj_algebra.specs.Power as ring
+use Rattle.fj_coeff.specs.Field as field
 use Rattle.fj_algebra.specs.Frobenius.{HasCharacteristic, IsTablePrime, table_primes, IsFrobenius}
+use Rattle.fj_algebra.specs.Power as ring
+use Rattle.fj_algebra.specs.Ring.{CommutativeRing}
 use Rattle.fj_algebra.proofs.Frobenius.{IsFrobenius-power}
 use Rattle.fj_algebra.proofs.Sum.{sum_over-RingMap, sum_over-same, sum_over-zero}
 use Rattle.fj_theory.specs.Exponents.{origin, times}
@@ -52,7 +52,8 @@ module _ {F : Field} (L : IsField F) where
   unfolding ring.multiple field.multiple
   multiple_one zero = map_zero L ∙ sym (term_zero L IsExponents-origin)
   multiple_one (suc n) =
-      map_add L _ _ ∙ ap₂ (sum F) (map_one L) (multiple_one n) ∙ sum_terms L 1 (field.multiple F n 1) (one_below L) (multiple_below L 1 n (one_below L)) IsExponents-origin
+      map_add L _ _ ∙ ap₂ (sum F) (map_one L) (multiple_one n)
+      ∙ sum_terms L 1 (field.multiple F n 1) (one_below L) (multiple_below L 1 n (one_below L)) IsExponents-origin
 
   pub polynomial-HasCharacteristic : HasCharacteristic (polynomial_ring L) F.characteristic
   polynomial-HasCharacteristic = record {
@@ -66,18 +67,21 @@ module _ {F : Field} (L : IsField F) where
   pub polynomial-IsFrobenius : (e : ℕ) → IsFrobenius (polynomial_ring L) (F.characteristic ^ e)
   polynomial-IsFrobenius e = IsFrobenius-power (polynomial_ring L) polynomial-HasCharacteristic characteristic-IsTablePrime e
 
-  pub power_sum : {f g : Polynomial} → IsPolynomial F f → IsPolynomial F g → (e : ℕ) → power F (sum F f g) (F.characteristic ^ e) ≡ sum F (power F f (F.characteristic ^ e)) (power F g (F.characteristic ^ e))
+  pub power_sum : {f g : Polynomial} → IsPolynomial F f → IsPolynomial F g → (e : ℕ)
+      → power F (sum F f g) (F.characteristic ^ e) ≡ sum F (power F f (F.characteristic ^ e)) (power F g (F.characteristic ^ e))
   power_sum {f} {g} P Q e =
       let q : ℕ = F.characteristic ^ e in
       let x : PolynomialOver F = record { map = f; is_polynomial = P } in
       let y : PolynomialOver F = record { map = g; is_polynomial = Q } in
-      ap (λ h. power F h q) (sym (map_add L x y)) ∙ sym (map_power L ((polynomial_ring L).add x y) q) ∙ ap (λ h. h.map) ((polynomial-IsFrobenius e).ring_map.keeps_add x y)
+      ap (λ h. power F h q) (sym (map_add L x y)) ∙ sym (map_power L ((polynomial_ring L).add x y) q)
+      ∙ ap (λ h. h.map) ((polynomial-IsFrobenius e).ring_map.keeps_add x y)
       ∙ map_add L _ _ ∙ ap₂ (sum F) (map_power L x q) (map_power L y q)
 
   pub power_empty : (e : ℕ) → power F empty (F.characteristic ^ e) ≡ empty
   power_empty e =
       let q : ℕ = F.characteristic ^ e in
-      ap (λ h. power F h q) (sym (map_zero L)) ∙ sym (map_power L (polynomial_ring L).zero q) ∙ ap (λ h. h.map) ((polynomial-IsFrobenius e).ring_map.keeps_zero) ∙ map_zero L
+      ap (λ h. power F h q) (sym (map_zero L)) ∙ sym (map_power L (polynomial_ring L).zero q)
+      ∙ ap (λ h. h.map) ((polynomial-IsFrobenius e).ring_map.keeps_zero) ∙ map_zero L
 
   -- The p^e-th power of a polynomial as a formal sum: the exponents are multiplied, and the coefficients taken to the power.
   module _ (e : ℕ) where
@@ -88,7 +92,8 @@ module _ {F : Field} (L : IsField F) where
       raised : IsAdditive (K L) S (λ a x. w (times (F.characteristic ^ e) a) (raise x))
       raised = record { keeps_add = λ a x y. ap (w (times (F.characteristic ^ e) a)) ((field-IsFrobenius e).ring_map.keeps_add x y) ∙ W.keeps_add _ (raise x) (raise y) }
 
-      pub weigh-power : {f : Polynomial} → IsPolynomial F f → weigh S w (terms L (power F f (F.characteristic ^ e))) ≡ weigh S (λ a x. w (times (F.characteristic ^ e) a) (raise x)) (terms L f)
+      pub weigh-power : {f : Polynomial} → IsPolynomial F f
+          → weigh S w (terms L (power F f (F.characteristic ^ e))) ≡ weigh S (λ a x. w (times (F.characteristic ^ e) a) (raise x)) (terms L f)
       weigh-power P = polynomial_induction L
           (λ f. weigh S w (terms L (power F f (F.characteristic ^ e))) ≡ weigh S (λ a x. w (times (F.characteristic ^ e) a) (raise x)) (terms L f))
           (ap (λ f. weigh S w (terms L f)) (power_empty e) ∙ weigh-empty L W ∙ sym (weigh-empty L raised))
@@ -108,7 +113,8 @@ module _ {F : Field} (L : IsField F) where
 
     module _ {f : Polynomial} (P : IsPolynomial F f) where
       -- The coefficient at q times an exponent list is the q-th power of the coefficient.
-      pub coefficient_in-power : (b : List ℕ) → coefficient_in (K L) (terms L (power F f (F.characteristic ^ e))) (times (F.characteristic ^ e) b) ≡ raise (coefficient_in (K L) (terms L f) b)
+      pub coefficient_in-power : (b : List ℕ)
+          → coefficient_in (K L) (terms L (power F f (F.characteristic ^ e))) (times (F.characteristic ^ e) b) ≡ raise (coefficient_in (K L) (terms L f) b)
       coefficient_in-power b =
           weigh-power (at_exponents-IsAdditive (K L) (times (F.characteristic ^ e) b)) P
           ∙ sum_over-same (K L) _ (λ t. raise (at_exponents (K L) b t.0 t.1))
@@ -119,19 +125,23 @@ module _ {F : Field} (L : IsField F) where
           by x true = refl
           by x false = sym (field-IsFrobenius e).ring_map.keeps_zero
 
-      pub coefficient-power : (b : List ℕ) → coefficient (power F f (F.characteristic ^ e)) (times (F.characteristic ^ e) b) ≡ field.power F (coefficient f b) (F.characteristic ^ e)
+      pub coefficient-power : (b : List ℕ)
+          → coefficient (power F f (F.characteristic ^ e)) (times (F.characteristic ^ e) b) ≡ field.power F (coefficient f b) (F.characteristic ^ e)
       coefficient-power b =
           let below = coefficient_below P (zero_below L) b in
           let whole =
           sym (coefficient_in-terms L (power F f (F.characteristic ^ e)) (times (F.characteristic ^ e) b)) ∙ coefficient_in-power b
           ∙ ap raise (coefficient_in-terms L f b) ∙ sym (element_power L (coefficient f b) (F.characteristic ^ e) below) in
-          sym (rank_element L _ (coefficient_below (IsPolynomial-power L P (F.characteristic ^ e)) (zero_below L) _)) ∙ ap (λ x. x.rank) whole ∙ rank_element L _ (power_below L (coefficient f b) (F.characteristic ^ e) below)
+          sym (rank_element L _ (coefficient_below (IsPolynomial-power L P (F.characteristic ^ e)) (zero_below L) _)) ∙ ap (λ x. x.rank) whole
+          ∙ rank_element L _ (power_below L (coefficient f b) (F.characteristic ^ e) below)
 
       -- All other coefficients are zero.
-      pub coefficient-power_other : (a : List ℕ) → ((b : List ℕ) → a ≢ times (F.characteristic ^ e) b) → coefficient (power F f (F.characteristic ^ e)) a ≡ 0
+      pub coefficient-power_other : (a : List ℕ) → ((b : List ℕ) → a ≢ times (F.characteristic ^ e) b)
+          → coefficient (power F f (F.characteristic ^ e)) a ≡ 0
       coefficient-power_other a other =
           let whole : element L (coefficient (power F f (F.characteristic ^ e)) a) ≡ (K L).zero =
           sym (coefficient_in-terms L (power F f (F.characteristic ^ e)) a) ∙ weigh-power (at_exponents-IsAdditive (K L) a) P
           ∙ sum_over-same (K L) _ (λ t. (K L).zero) (λ t. ap (λ s. cond s (raise t.1) (K L).zero) (same_false a (times (F.characteristic ^ e) t.0) (other t.0))) (terms L f)
           ∙ sum_over-zero (K L) (terms L f) in
-          sym (rank_element L _ (coefficient_below (IsPolynomial-power L P (F.characteristic ^ e)) (zero_below L) a)) ∙ ap (λ x. x.rank) whole ∙ rank_zero L
+          sym (rank_element L _ (coefficient_below (IsPolynomial-power L P (F.characteristic ^ e)) (zero_below L) a)) ∙ ap (λ x. x.rank) whole
+          ∙ rank_zero L

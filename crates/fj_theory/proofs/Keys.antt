@@ -106,16 +106,19 @@ front_sums_zero_bounded n a = All_zero_after (total a) (front_sums n a) (front_s
 front_sums_zero_take : (n : ℕ) (a b : List ℕ) → length a ≡ length b → front_sums n a ++ 0 ∷ [] ≡ front_sums n b ++ 0 ∷ [] → take n a ≡ take n b
 front_sums_zero_take n a b e f = lists_from_sums n a b (front_sum_same n a b (append_cancel_right (front_sums n a) (front_sums n b) (0 ∷ []) f)) e
 
-front_sums_zero-plus : (n : ℕ) (a b : List ℕ) → length a ≡ length b → front_sums n (plus a b) ++ 0 ∷ [] ≡ plus (front_sums n a ++ 0 ∷ []) (front_sums n b ++ 0 ∷ [])
+front_sums_zero-plus : (n : ℕ) (a b : List ℕ) → length a ≡ length b
+    → front_sums n (plus a b) ++ 0 ∷ [] ≡ plus (front_sums n a ++ 0 ∷ []) (front_sums n b ++ 0 ∷ [])
 front_sums_zero-plus n a b e =
-    ap (λ c. c ++ 0 ∷ []) (front_sums-plus n a b e) ∙ plus_zero_after (front_sums n a) (front_sums n b) (length-front_sums n a ∙ sym (length-front_sums n b))
+    ap (λ c. c ++ 0 ∷ []) (front_sums-plus n a b e)
+    ∙ plus_zero_after (front_sums n a) (front_sums n b) (length-front_sums n a ∙ sym (length-front_sums n b))
 
 pub grevlex_key-IsMonomialOrder : IsMonomialOrder grevlex_key
 unfolding grevlex_key
 grevlex_key-IsMonomialOrder = record {
   nine = λ a A. length_front_sums_zero 8 a;
   bounded = λ a A. front_sums_zero_bounded 8 a;
-  injective = λ a b A B e. sym (take_all 8 a (omega (arith, A.eight))) ∙ front_sums_zero_take 8 a b (A.eight ∙ sym B.eight) e ∙ take_all 8 b (omega (arith, B.eight));
+  injective = λ a b A B e. sym (take_all 8 a (omega (arith, A.eight))) ∙ front_sums_zero_take 8 a b (A.eight ∙ sym B.eight) e
+      ∙ take_all 8 b (omega (arith, B.eight));
   additive = λ a b A B. front_sums_zero-plus 8 a b (A.eight ∙ sym B.eight);
 }
 

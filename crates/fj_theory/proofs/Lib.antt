@@ -1,6 +1,7 @@
 pub mod EighthVariable
 pub mod Exponents
 pub mod MonomialOrder
+pub mod Divisibility
 pub mod Keys
 pub mod Field
 pub mod FormalSum
@@ -8,6 +9,11 @@ pub mod OrderedPolynomials
 pub mod Polynomial
 pub mod Product
 pub mod PolynomialRing
+pub mod Fraction
+pub mod Digits
+pub mod Period
+pub mod Candidates
+pub mod Gaps
 pub mod IdealBridge
 pub mod Ideal
 pub mod Terms
@@ -24,6 +30,8 @@ pub mod PartsList
 pub mod PointIdeal
 pub mod PartsExistence
 pub mod PartsRing
+pub mod Degree
+pub mod TermMaps
 pub mod RootParts
 pub mod Lead
 pub mod ReducedBasis
@@ -39,3 +47,7 @@ pub mod Criterion
 pub mod Sugar
 pub mod Replacing
 pub mod Lacking
+pub mod TermLists
+pub mod Plain
+pub mod PlainProduct
+pub mod Certificate

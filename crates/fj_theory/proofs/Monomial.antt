@@ -2,10 +2,10 @@
 use Rattle.std.proofs.Common.{◌≡◌, ℕ, zero, suc, ◌<◌, Bool, true, false, cond, List, [], ◌∷◌, All, unwrap_or, refl, sym, ap, ap₂, ◌∙◌, subst}
 use Rattle.std.specs.FinMap.{empty, entries, entries_sorted, from_entries}
 use Rattle.std.proofs.lemmas.List.Elements.{All-cons, All-head, All-tail}
-use Rattle.fj_coeff.specs.Field as field
 use Rattle.fj_coeff.specs.Field.{Field, IsField}
-use Rattle.fj_algebra.specs.Sum.{sum_over}
+use Rattle.fj_coeff.specs.Field as field
 use Rattle.fj_algebra.specs.Power as ring
+use Rattle.fj_algebra.specs.Sum.{sum_over}
 use Rattle.fj_theory.specs.Exponents.{IsExponents, plus, minus, times, divides}
 use Rattle.fj_theory.specs.Polynomial.{Polynomial, IsPolynomial, IsTerm, coefficient, term, sum, product, power}
 use Rattle.fj_theory.proofs.Exponents.{IsExponents-plus, IsExponents-times, minus-plus, divides-plus, times_zero, times_suc}
@@ -61,11 +61,13 @@ module _ {F : Field} (L : IsField F) where
       by false = L.add_zero 0 (zero_below L)
 
   -- The product of two terms.
-  pub product_terms : (c d : ℕ) {a b : List ℕ} → c < F.size → d < F.size → IsExponents a → IsExponents b → product F (term c a) (term d b) ≡ term (F.mul c d) (plus a b)
+  pub product_terms : (c d : ℕ) {a b : List ℕ} → c < F.size → d < F.size → IsExponents a → IsExponents b
+      → product F (term c a) (term d b) ≡ term (F.mul c d) (plus a b)
   product_terms c d {a} {b} h g A B =
       from_terms L (IsPolynomial-product L P Q) (IsPolynomial-term (F.mul c d) (L.mul_below c d h g) (IsExponents-plus A B))
       (λ x. weigh-product L P Q (at_exponents-IsAdditive (K L) x) ∙ weigh-term L (left x) c a ∙ weigh-term L (right x) d b
-      ∙ ap (at_exponents (K L) x (plus a b)) (sym (element_mul L c d h g)) ∙ sym (weigh-term L (at_exponents-IsAdditive (K L) x) (F.mul c d) (plus a b)))
+      ∙ ap (at_exponents (K L) x (plus a b)) (sym (element_mul L c d h g))
+      ∙ sym (weigh-term L (at_exponents-IsAdditive (K L) x) (F.mul c d) (plus a b)))
     where
       P : IsPolynomial F (term c a)
       P = IsPolynomial-term c h A
@@ -73,7 +75,8 @@ module _ {F : Field} (L : IsField F) where
       Q : IsPolynomial F (term d b)
       Q = IsPolynomial-term d g B
 
-      left : (x : List ℕ) → IsAdditive (K L) (K L) (λ u y. sum_over (K L) (λ e. at_exponents (K L) x (plus u e.0) ((K L).mul y e.1)) (terms L (term d b)))
+      left : (x : List ℕ)
+          → IsAdditive (K L) (K L) (λ u y. sum_over (K L) (λ e. at_exponents (K L) x (plus u e.0) ((K L).mul y e.1)) (terms L (term d b)))
       left x = unfold meets in meets_left-IsAdditive L x (terms L (term d b))
 
       right : (x : List ℕ) → IsAdditive (K L) (K L) (λ u y. at_exponents (K L) x (plus a u) ((K L).mul (element L c) y))
@@ -84,24 +87,29 @@ module _ {F : Field} (L : IsField F) where
   unfolding power field.power
   power_term c {a} h A zero = ap (term 1) (sym (times_zero A))
   power_term c {a} h A (suc k) =
-      ap (product F (term c a)) (power_term c h A k) ∙ product_terms c (field.power F c k) h (power_below c k h) A (IsExponents-times k A) ∙ ap (term (F.mul c (field.power F c k))) (sym (times_suc k a))
+      ap (product F (term c a)) (power_term c h A k) ∙ product_terms c (field.power F c k) h (power_below c k h) A (IsExponents-times k A)
+      ∙ ap (term (F.mul c (field.power F c k))) (sym (times_suc k a))
 
   module _ {f : Polynomial} (P : IsPolynomial F f) (c : ℕ) {a : List ℕ} (h : c < F.size) (A : IsExponents a) where
     -- The coefficients of the product with a term.
-    pub coefficient-product_term : {x : List ℕ} → IsExponents x → coefficient (product F (term c a) f) x ≡ cond (divides a x) (F.mul c (coefficient f (minus x a))) 0
+    pub coefficient-product_term : {x : List ℕ} → IsExponents x
+        → coefficient (product F (term c a) f) x ≡ cond (divides a x) (F.mul c (coefficient f (minus x a))) 0
     coefficient-product_term {x} X =
         let Q : IsPolynomial F (term c a) = IsPolynomial-term c h A in
         let y : ℕ = coefficient f (minus x a) in
         let whole : element L (coefficient (product F (term c a) f) x) ≡ element L (cond (divides a x) (F.mul c y) 0) =
         sym (coefficient_in-terms L (product F (term c a) f) x) ∙ weigh-product L Q P (at_exponents-IsAdditive (K L) x) ∙ weigh-term L left c a
-        ∙ row_coefficient L (element L c) (terms L f) X A (terms_exponents L P) ∙ ap (λ z. cond (divides a x) ((K L).mul (element L c) z) (K L).zero) (coefficient_in-terms L f (minus x a))
+        ∙ row_coefficient L (element L c) (terms L f) X A (terms_exponents L P)
+        ∙ ap (λ z. cond (divides a x) ((K L).mul (element L c) z) (K L).zero) (coefficient_in-terms L f (minus x a))
         ∙ by (divides a x) in
-        sym (rank_element L _ (coefficient_below (IsPolynomial-product L Q P) (zero_below L) x)) ∙ ap (λ z. z.rank) whole ∙ rank_element L _ (below (divides a x))
+        sym (rank_element L _ (coefficient_below (IsPolynomial-product L Q P) (zero_below L) x)) ∙ ap (λ z. z.rank) whole
+        ∙ rank_element L _ (below (divides a x))
       where
         left : IsAdditive (K L) (K L) (λ u y. sum_over (K L) (λ e. at_exponents (K L) x (plus u e.0) ((K L).mul y e.1)) (terms L f))
         left = unfold meets in meets_left-IsAdditive L x (terms L f)
 
-        by : (t : Bool) → cond t ((K L).mul (element L c) (element L (coefficient f (minus x a)))) (K L).zero ≡ element L (cond t (F.mul c (coefficient f (minus x a))) 0)
+        by : (t : Bool)
+            → cond t ((K L).mul (element L c) (element L (coefficient f (minus x a)))) (K L).zero ≡ element L (cond t (F.mul c (coefficient f (minus x a))) 0)
         by true = sym (element_mul L c _ h (coefficient_below P (zero_below L) (minus x a)))
         by false = sym (element_zero L)
 
@@ -111,10 +119,12 @@ module _ {F : Field} (L : IsField F) where
 
     pub coefficient-product_term_plus : {b : List ℕ} → IsExponents b → coefficient (product F (term c a) f) (plus a b) ≡ F.mul c (coefficient f b)
     coefficient-product_term_plus {b} B =
-        coefficient-product_term (IsExponents-plus A B) ∙ ap (λ t. cond t (F.mul c (coefficient f (minus (plus a b) a))) 0) (divides-plus A B) ∙ ap (λ x. F.mul c (coefficient f x)) (minus-plus A B)
+        coefficient-product_term (IsExponents-plus A B) ∙ ap (λ t. cond t (F.mul c (coefficient f (minus (plus a b) a))) 0) (divides-plus A B)
+        ∙ ap (λ x. F.mul c (coefficient f x)) (minus-plus A B)
 
   -- A list of terms is its first term plus the rest.
-  pub from_entries-cons : (t : List ℕ × ℕ) (ts : List (List ℕ × ℕ)) → IsTerm F t → All (IsTerm F) ts → coefficient (from_entries ts) t.0 ≡ 0 → from_entries (t ∷ ts) ≡ sum F (term t.1 t.0) (from_entries ts)
+  pub from_entries-cons : (t : List ℕ × ℕ) (ts : List (List ℕ × ℕ)) → IsTerm F t → All (IsTerm F) ts → coefficient (from_entries ts) t.0 ≡ 0
+      → from_entries (t ∷ ts) ≡ sum F (term t.1 t.0) (from_entries ts)
   from_entries-cons t ts B all new =
       polynomial_equal (IsPolynomial-from_entries (t ∷ ts) (All-cons (IsTerm F) t ts B all)) (IsPolynomial-sum L (IsPolynomial-term t.1 B.below B.exponents) Q)
       (λ a A. coefficient-from_entries_cons t ts a ∙ by a (same a t.0) refl ∙ sym (coefficient-sum L (term t.1 t.0) (from_entries ts) a ∙ ap (λ c. F.add c (coefficient (from_entries ts) a)) (coefficient-term t.1 t.0 a)))
@@ -122,7 +132,8 @@ module _ {F : Field} (L : IsField F) where
       Q : IsPolynomial F (from_entries ts)
       Q = IsPolynomial-from_entries ts all
 
-      by : (a : List ℕ) (s : Bool) → same a t.0 ≡ s → cond s t.1 (coefficient (from_entries ts) a) ≡ F.add (cond s t.1 0) (coefficient (from_entries ts) a)
+      by : (a : List ℕ) (s : Bool) → same a t.0 ≡ s
+          → cond s t.1 (coefficient (from_entries ts) a) ≡ F.add (cond s t.1 0) (coefficient (from_entries ts) a)
       by a true e = sym (ap (F.add t.1) (ap (coefficient (from_entries ts)) (same_true a t.0 e) ∙ new) ∙ L.add_zero t.1 B.below)
       by a false e =
           let below = coefficient_below Q (zero_below L) a in

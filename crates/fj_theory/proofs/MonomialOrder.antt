@@ -19,7 +19,7 @@ compare_by_total key = on_total key nat_list_cmp_total
 nat_cmp-plus : (x y z : ℕ) → nat_cmp (x + z) (y + z) ≡ nat_cmp x y
 nat_cmp-plus x y z = grind (arith, nat_tests)
 
-slice_cmp-plus : (x y z : List ℕ) → length x ≡ length z → length y ≡ length z → slice_cmp nat_cmp (plus x z) (plus y z) ≡ slice_cmp nat_cmp x y
+pub slice_cmp-plus : (x y z : List ℕ) → length x ≡ length z → length y ≡ length z → slice_cmp nat_cmp (plus x z) (plus y z) ≡ slice_cmp nat_cmp x y
 unfolding plus
 slice_cmp-plus [] [] z e f = refl
 slice_cmp-plus [] (v ∷ y) [] e f = absurd (omega arith)
@@ -63,7 +63,8 @@ nothing_less : (Q : List ℕ → Type 0) → LessHold 0 Q []
 nothing_less Q [] f l = cc
 nothing_less Q (y ∷ j) f l = absurd (omega arith)
 
-less_by_head : (n : ℕ) (Q : List ℕ → Type 0) (x : ℕ) → ((y : ℕ) → y < x → (k : List ℕ) → length k ≡ n → Q (y ∷ k)) → (k : List ℕ) → LessHold n (λ j. Q (x ∷ j)) k → LessHold (suc n) Q (x ∷ k)
+less_by_head : (n : ℕ) (Q : List ℕ → Type 0) (x : ℕ) → ((y : ℕ) → y < x → (k : List ℕ) → length k ≡ n → Q (y ∷ k)) → (k : List ℕ)
+    → LessHold n (λ j. Q (x ∷ j)) k → LessHold (suc n) Q (x ∷ k)
 less_by_head n Q x lower k inner [] g l = absurd (omega arith)
 less_by_head n Q x lower k inner (y ∷ j) g l =
     ⊎_elim (λ h. lower y h j (omega arith)) (λ h. subst (λ z. Q (z ∷ j)) (sym h.0) (inner j (omega arith) h.1)) (nat_cmp_split y x (slice_cmp nat_cmp j k) l)
@@ -86,9 +87,11 @@ module _ {key : List ℕ → List ℕ} (O : IsMonomialOrder key) where
   -- A product on both sides keeps the order.
   pub compare_by-plus : {a b c : List ℕ} → IsExponents a → IsExponents b → IsExponents c → compare_by key (plus a c) (plus b c) ≡ compare_by key a b
   compare_by-plus {a} {b} {c} A B C =
-      ap₂ (slice_cmp nat_cmp) (O.additive a c A C) (O.additive b c B C) ∙ slice_cmp-plus (key a) (key b) (key c) (O.nine a A ∙ sym (O.nine c C)) (O.nine b B ∙ sym (O.nine c C))
+      ap₂ (slice_cmp nat_cmp) (O.additive a c A C) (O.additive b c B C)
+      ∙ slice_cmp-plus (key a) (key b) (key c) (O.nine a A ∙ sym (O.nine c C)) (O.nine b B ∙ sym (O.nine c C))
 
-  pub compare_by-plus_left : {a b c : List ℕ} → IsExponents a → IsExponents b → IsExponents c → compare_by key (plus c a) (plus c b) ≡ compare_by key a b
+  pub compare_by-plus_left : {a b c : List ℕ} → IsExponents a → IsExponents b → IsExponents c
+      → compare_by key (plus c a) (plus c b) ≡ compare_by key a b
   compare_by-plus_left {a} {b} {c} A B C = ap₂ (compare_by key) (plus_comm c a) (plus_comm c b) ∙ compare_by-plus A B C
 
   key_origin : key origin ≡ replicate 9 0
@@ -99,7 +102,8 @@ module _ {key : List ℕ → List ℕ} (O : IsMonomialOrder key) where
   origin_least {a} A = ap (λ k. is_gt (slice_cmp nat_cmp k (key a))) key_origin ∙ slice_cmp_zeros 9 (key a) (O.nine a A)
 
   -- Strict induction along the order: what holds of an exponent list where it holds of each lesser one holds of all.
-  pub order_induction : (P : List ℕ → Type 0) → ((a : List ℕ) → IsExponents a → ((b : List ℕ) → IsExponents b → compare_by key b a ≡ Less → P b) → P a) → (a : List ℕ) → IsExponents a → P a
+  pub order_induction : (P : List ℕ → Type 0)
+      → ((a : List ℕ) → IsExponents a → ((b : List ℕ) → IsExponents b → compare_by key b a ≡ Less → P b) → P a) → (a : List ℕ) → IsExponents a → P a
   order_induction P step a A =
       lex_induction 9 (λ k. (b : List ℕ) → IsExponents b → key b ≡ k → P b)
       (λ k e lower b B f. step b B (λ c C l. lower (key c) (O.nine c C) (subst (λ j. slice_cmp nat_cmp (key c) j ≡ Less) f l) c C refl))
@@ -119,7 +123,7 @@ nat_cmp-times n x y h =
     ⊎_elim (λ e. ap (λ z. nat_cmp (n * x) (n * z)) (sym e) ∙ tied_itself nat_cmp_total (n * x) ∙ sym (ap (nat_cmp x) (sym e) ∙ tied_itself nat_cmp_total x))
     (⊎_elim (λ l. nat_cmp_less _ _ (times_less n x y h l) ∙ sym (nat_cmp_less x y l)) (λ l. nat_cmp_greater _ _ (times_less n y x h l) ∙ sym (nat_cmp_greater x y l))) (cases_order x y)
 
-slice_cmp-times : (n : ℕ) (x y : List ℕ) → 0 < n → slice_cmp nat_cmp (times n x) (times n y) ≡ slice_cmp nat_cmp x y
+pub slice_cmp-times : (n : ℕ) (x y : List ℕ) → 0 < n → slice_cmp nat_cmp (times n x) (times n y) ≡ slice_cmp nat_cmp x y
 unfolding times
 slice_cmp-times n [] [] h = refl
 slice_cmp-times n [] (v ∷ y) h = refl
@@ -137,7 +141,8 @@ module _ {key : List ℕ → List ℕ} (O : IsMonomialOrder key) where
   -- The key of a power is the multiple of the key.
   pub key-times : (n : ℕ) {a : List ℕ} → IsExponents a → key (times n a) ≡ times n (key a)
   key-times zero {a} A = ap key (times_zero A) ∙ key_origin O ∙ sym (times_nothing (key a) 9 (O.nine a A))
-  key-times (suc n) {a} A = ap key (times_suc n a) ∙ O.additive a (times n a) A (IsExponents-times n A) ∙ ap (plus (key a)) (key-times n A) ∙ sym (times_suc n (key a))
+  key-times (suc n) {a} A = ap key (times_suc n a) ∙ O.additive a (times n a) A (IsExponents-times n A) ∙ ap (plus (key a)) (key-times n A)
+      ∙ sym (times_suc n (key a))
 
   -- A power on both sides keeps the order.
   pub compare_by-times : (n : ℕ) {a b : List ℕ} → 0 < n → IsExponents a → IsExponents b → compare_by key (times n a) (times n b) ≡ compare_by key a b

@@ -2,8 +2,8 @@
 use Rattle.std.proofs.Common.{◌≡◌, ℕ, suc, zero, ◌+◌, ◌≤◌, ◌==◌, ◌&&◌, ◌||◌, nat_le, max, Bool, true, false, List, [], ◌∷◌, length, refl, sym, ap, ap₂, ◌∙◌, arith, true≢false}
 use Rattle.std.proofs.lemmas.Bool.Decides.{nat_tests}
 use Rattle.fj_algebra.specs.Order as order
-use Rattle.fj_theory.specs.Exponents.{plus, divides}
-use Rattle.fj_theory.specs.Run.{least_common_multiple, are_coprime}
+use Rattle.fj_theory.specs.Exponents.{plus, divides, least_common_multiple}
+use Rattle.fj_theory.specs.Run.{are_coprime}
 use Rattle.fj_theory.proofs.Exponents.{cons_same}
 use Rattle.fj_theory.proofs.OrderedPolynomials.{Exponents, exponents_equal, times, monomials}
 use Rattle.fj_theory.proofs.Lead.{Divides-from_divides, divides-from_Divides}

@@ -4,8 +4,8 @@ use Rattle.std.specs.List.{list_any}
 use Rattle.std.specs.FinMap.{empty}
 use Rattle.std.proofs.lemmas.Bool.{true≢false, or_parts}
 use Rattle.std.proofs.lemmas.List.Elements.{All-head, All-tail, All-map}
-use Rattle.fj_coeff.specs.Field as field
 use Rattle.fj_coeff.specs.Field.{Field, IsField}
+use Rattle.fj_coeff.specs.Field as field
 use Rattle.fj_theory.specs.Exponents.{IsExponents, plus, minus, times, divides, quotient_by, residue_by}
 use Rattle.fj_theory.specs.Polynomial.{Polynomial, IsPolynomial, coefficient, term, product, power}
 use Rattle.fj_theory.specs.Parts.{Part, IsParts, sum_of_parts, part_at, iterated_root}
@@ -55,16 +55,19 @@ part_at_none (part ∷ parts) a h =
     let apart = or_parts (same a part.residue) _ h in
     ap (λ t. if t then part.polynomial else part_at parts a) apart.0 ∙ part_at_none parts a apart.1
 
-pub part_at_All : (P : List ℕ → Polynomial → Type 0) (parts : List Part) (a : List ℕ) → All (λ part. P part.residue part.polynomial) parts → list_any (same a) (residues_of parts) ≡ true → P a (part_at parts a)
+pub part_at_All : (P : List ℕ → Polynomial → Type 0) (parts : List Part) (a : List ℕ) → All (λ part. P part.residue part.polynomial) parts
+    → list_any (same a) (residues_of parts) ≡ true → P a (part_at parts a)
 unfolding part_at
 part_at_All P [] a all h = absurd (true≢false (sym h))
 part_at_All P (part ∷ parts) a all h = by (same a part.residue) refl h (part_at_All P parts a (All-tail (λ part. P part.residue part.polynomial) part parts all))
   where
-    by : (t : Bool) → same a part.residue ≡ t → (t || list_any (same a) (residues_of parts)) ≡ true → (list_any (same a) (residues_of parts) ≡ true → P a (part_at parts a)) → P a (if t then part.polynomial else part_at parts a)
+    by : (t : Bool) → same a part.residue ≡ t → (t || list_any (same a) (residues_of parts)) ≡ true
+        → (list_any (same a) (residues_of parts) ≡ true → P a (part_at parts a)) → P a (if t then part.polynomial else part_at parts a)
     by true e g later = subst (λ b. P b part.polynomial) (sym (same_true a part.residue e)) (All-head (λ part. P part.residue part.polynomial) part parts all)
     by false e g later = later g
 
-pub IsPolynomial-part_at : {F : Field} (parts : List Part) (a : List ℕ) → All (λ part. IsPolynomial F part.polynomial) parts → IsPolynomial F (part_at parts a)
+pub IsPolynomial-part_at : {F : Field} (parts : List Part) (a : List ℕ) → All (λ part. IsPolynomial F part.polynomial) parts
+    → IsPolynomial F (part_at parts a)
 IsPolynomial-part_at {F} parts a all = by (list_any (same a) (residues_of parts)) refl
   where
     by : (t : Bool) → list_any (same a) (residues_of parts) ≡ t → IsPolynomial F (part_at parts a)
@@ -73,7 +76,8 @@ IsPolynomial-part_at {F} parts a all = by (list_any (same a) (residues_of parts)
 
 not_any : (a : List ℕ) (rs : List (List ℕ)) → All (λ b. same a b ≡ false) rs → list_any (same a) rs ≡ false
 not_any a [] all = refl
-not_any a (b ∷ rs) all = ap (λ t. t || list_any (same a) rs) (All-head (λ c. same a c ≡ false) b rs all) ∙ not_any a rs (All-tail (λ c. same a c ≡ false) b rs all)
+not_any a (b ∷ rs) all = ap (λ t. t || list_any (same a) rs) (All-head (λ c. same a c ≡ false) b rs all)
+    ∙ not_any a rs (All-tail (λ c. same a c ≡ false) b rs all)
 
 module _ {F : Field} (L : IsField F) (e : ℕ) where
   -- One summand: the q-th power of a polynomial times a monomial.
@@ -99,7 +103,8 @@ module _ {F : Field} (L : IsField F) (e : ℕ) where
             let B : IsExponents b = record { eight = sym (length-times q b) ∙ ap length (sym s) ∙ (IsExponents-minus M A).eight } in
             true≢false (sym (same_itself a) ∙ ap (λ c. same c a) (sym (ap (residue_by q) (sym (plus-minus A M d) ∙ plus_comm a (minus m a) ∙ ap (λ c. plus c a) s) ∙ residue_by-plus q B A below)) ∙ apart)
 
-        by : (t : Bool) → same (residue_by q m) a ≡ t → coefficient (product F (term 1 a) (power F f q)) m ≡ cond t (field.power F (coefficient f (quotient_by q m)) q) 0
+        by : (t : Bool) → same (residue_by q m) a ≡ t
+            → coefficient (product F (term 1 a) (power F f q)) m ≡ cond t (field.power F (coefficient f (quotient_by q m)) q) 0
         by true s =
             let b : List ℕ = quotient_by q m in
             let B = IsExponents-quotient_by q M in
@@ -113,7 +118,8 @@ module _ {F : Field} (L : IsField F) (e : ℕ) where
             inner true d = one_times _ (coefficient_below Q (zero_below L) (minus m a)) ∙ coefficient-power_other L e P (minus m a) (other s d)
             inner false d = refl
 
-  pub IsPolynomial-sum_of_parts : (parts : List Part) → IsFamily F (F.characteristic ^ e) parts → IsPolynomial F (sum_of_parts F (F.characteristic ^ e) parts)
+  pub IsPolynomial-sum_of_parts : (parts : List Part) → IsFamily F (F.characteristic ^ e) parts
+      → IsPolynomial F (sum_of_parts F (F.characteristic ^ e) parts)
   unfolding sum_of_parts
   IsPolynomial-sum_of_parts [] H = IsPolynomial-empty F
   IsPolynomial-sum_of_parts (part ∷ parts) H =
@@ -125,7 +131,8 @@ module _ {F : Field} (L : IsField F) (e : ℕ) where
   pub coefficient-sum_of_parts : (parts : List Part) → IsFamily F (F.characteristic ^ e) parts → {m : List ℕ} → IsExponents m
       → coefficient (sum_of_parts F (F.characteristic ^ e) parts) m ≡ field.power F (coefficient (part_at parts (residue_by (F.characteristic ^ e) m)) (quotient_by (F.characteristic ^ e) m)) (F.characteristic ^ e)
   unfolding sum_of_parts part_at
-  coefficient-sum_of_parts [] H {m} M = coefficient-empty m ∙ sym (ap (λ c. field.power F c (F.characteristic ^ e)) (coefficient-empty (quotient_by (F.characteristic ^ e) m)) ∙ field_power_zero L e)
+  coefficient-sum_of_parts [] H {m} M = coefficient-empty m
+      ∙ sym (ap (λ c. field.power F c (F.characteristic ^ e)) (coefficient-empty (quotient_by (F.characteristic ^ e) m)) ∙ field_power_zero L e)
   coefficient-sum_of_parts (part ∷ parts) H {m} M =
       let q : ℕ = F.characteristic ^ e in
       let P = All-head (λ part. IsPolynomial F part.polynomial) part parts H.polynomials in
@@ -144,7 +151,8 @@ module _ {F : Field} (L : IsField F) (e : ℕ) where
       at_below : {f : Polynomial} → IsPolynomial F f → at f < F.size
       at_below P = power_below L _ (F.characteristic ^ e) (coefficient_below P (zero_below L) _)
 
-      by : (t : Bool) → same (residue_by (F.characteristic ^ e) m) part.residue ≡ t → F.add (cond t (at part.polynomial) 0) (at (part_at parts (residue_by (F.characteristic ^ e) m))) ≡ at (if t then part.polynomial else part_at parts (residue_by (F.characteristic ^ e) m))
+      by : (t : Bool) → same (residue_by (F.characteristic ^ e) m) part.residue ≡ t
+          → F.add (cond t (at part.polynomial) 0) (at (part_at parts (residue_by (F.characteristic ^ e) m))) ≡ at (if t then part.polynomial else part_at parts (residue_by (F.characteristic ^ e) m))
       by true s =
           let none : part_at parts (residue_by (F.characteristic ^ e) m) ≡ empty =
           ap (part_at parts) (same_true _ part.residue s) ∙ part_at_none parts part.residue (not_any part.residue (residues_of parts) H.distinct.0) in
@@ -189,7 +197,8 @@ module _ {F : Field} (L : IsField F) (e : ℕ) where
             ∙ ap (λ c. field.power F c (F.characteristic ^ e)) (coefficient-empty (quotient_by (F.characteristic ^ e) m)) ∙ field_power_zero L e)
 
   -- The coefficients of the parts are determined by the sum.
-  pub part_at-coefficient : {h : Polynomial} (parts : List Part) → IsFamily F (F.characteristic ^ e) parts → h ≡ sum_of_parts F (F.characteristic ^ e) parts
+  pub part_at-coefficient : {h : Polynomial} (parts : List Part) → IsFamily F (F.characteristic ^ e) parts
+      → h ≡ sum_of_parts F (F.characteristic ^ e) parts
       → {a b : List ℕ} → IsExponents a → All (λ k. k < F.characteristic ^ e) a → IsExponents b → field.power F (coefficient (part_at parts a) b) (F.characteristic ^ e) ≡ coefficient h (plus (times (F.characteristic ^ e) b) a)
   part_at-coefficient {h} parts G whole {a} {b} A below B =
       let q : ℕ = F.characteristic ^ e in
@@ -197,7 +206,8 @@ module _ {F : Field} (L : IsField F) (e : ℕ) where
       sym (ap (λ f. coefficient f m) whole ∙ coefficient-sum_of_parts parts G (IsExponents-plus (IsExponents-times q B) A)
       ∙ ap₂ (λ r c. field.power F (coefficient (part_at parts r) c) q) (residue_by-plus q B A below) (quotient_by-plus q B A below))
 
-  pub part_at_unique : {h : Polynomial} (parts others : List Part) → IsFamily F (F.characteristic ^ e) parts → IsFamily F (F.characteristic ^ e) others
+  pub part_at_unique : {h : Polynomial} (parts others : List Part) → IsFamily F (F.characteristic ^ e) parts
+      → IsFamily F (F.characteristic ^ e) others
       → h ≡ sum_of_parts F (F.characteristic ^ e) parts → h ≡ sum_of_parts F (F.characteristic ^ e) others → {a : List ℕ} → IsExponents a → All (λ k. k < F.characteristic ^ e) a → part_at parts a ≡ part_at others a
   part_at_unique parts others G K whole whole' {a} A below =
       let P = IsPolynomial-part_at parts a G.polynomials in

@@ -1,26 +1,26 @@
 -- Each polynomial has a list of parts, and the terms of a part fall where the polynomial's do.
-use Rattle.std.proofs.lemmas.Cmp.{eq_by_cmp_equiv, nat_list_cmp_total}
-use Rattle.std.proofs.lemmas.Map.Made.{All-is_member}
-use Rattle.fj_theory.proofs.Product.{entries_coefficients}
-use Rattle.fj_theory.proofs.PartsList.{part_terms_nonzero, IsParts-from_part_terms}
-use Rattle.std.specs.Cmp.Lexicographic.{slice_cmp}
-use Rattle.fj_theory.proofs.Polynomial.{support-with_coefficients, coefficient-with_coefficients, support_listed}
-use Rattle.fj_theory.proofs.Parts.{residues_of}
-use Rattle.fj_theory.proofs.Exponents.{IsExponents-times}
-use Rattle.fj_theory.proofs.MonomialOrder.{compare_by-plus, compare_by-times}
-use Rattle.fj_theory.proofs.Residues.{IsExponents-quotient_by, quotient-residue, IsExponents-residue_by, residue_by-below, IsRising-from_Rises, Rises-support}
-use Rattle.fj_theory.proofs.Frobenius.{power_positive}
 use Rattle.std.proofs.Common.{◌≡◌, ℕ, ◌^◌, ◌<◌, Bool, true, false, cond, if◌then◌else◌, List, [], ◌∷◌, ◌++◌, map, get_or, All, nat_cmp, Greater, refl, sym, ap, ap₂, ◌∙◌, subst, ◌≢◌, arith}
+use Rattle.std.specs.Cmp.Lexicographic.{slice_cmp}
 use Rattle.std.specs.List.{list_any}
 use Rattle.std.specs.FinMap.{empty, entries, from_entries}
+use Rattle.std.proofs.lemmas.Cmp.{eq_by_cmp_equiv, nat_list_cmp_total}
+use Rattle.std.proofs.lemmas.Map.Made.{All-is_member}
 use Rattle.std.proofs.lemmas.List.Elements.{All-nil, All-cons, All-head, All-tail, All-map, All-weaker}
 use Rattle.fj_coeff.specs.Field.{Field, IsField}
 use Rattle.fj_theory.specs.Exponents.{IsExponents, plus, times, quotient_by, residue_by}
 use Rattle.fj_theory.specs.MonomialOrder.{compare_by, IsMonomialOrder, IsRising, lex_key}
 use Rattle.fj_theory.specs.Polynomial.{Polynomial, IsPolynomial, IsFalling, coefficient, support, with_coefficients}
 use Rattle.fj_theory.specs.Parts.{Part, IsParts, part_terms, iterated_root}
+use Rattle.fj_theory.proofs.Product.{entries_coefficients}
+use Rattle.fj_theory.proofs.PartsList.{part_terms_nonzero, IsParts-from_part_terms}
+use Rattle.fj_theory.proofs.Polynomial.{support-with_coefficients, coefficient-with_coefficients, support_listed}
+use Rattle.fj_theory.proofs.Parts.{residues_of}
+use Rattle.fj_theory.proofs.Exponents.{IsExponents-times}
+use Rattle.fj_theory.proofs.MonomialOrder.{compare_by-plus, compare_by-times}
+use Rattle.fj_theory.proofs.Residues.{IsExponents-quotient_by, quotient-residue, IsExponents-residue_by, residue_by-below, IsRising-from_Rises, Rises-support}
+use Rattle.fj_theory.proofs.Frobenius.{power_positive}
 use Rattle.fj_theory.proofs.FormalSum.{same, same_true}
-use Rattle.fj_theory.proofs.Terms.{Falls, Falls-from_IsFalling, IsFalling-from_Falls, IsTerm-entries, from_entries-entries}
+use Rattle.fj_theory.proofs.Terms.{Falls, Falls-from_IsFalling, IsFalling-from_Falls, IsTerm-entries, from_entries-entries, IsFalling-last}
 
 -- A term at the end of the list comes to the end of its part.
 pub part_terms_push : (F : Field) (e : ℕ) (a : List ℕ) (ts : List (List ℕ × ℕ)) (t : List ℕ × ℕ)
@@ -33,14 +33,16 @@ part_terms_push F e a (u ∷ ts) t = ap (λ r. if same a (residue_by (F.characte
     rest : List (List ℕ × ℕ)
     rest = part_terms F e a ts
 
-    by : (s r : Bool) (v w : List ℕ × ℕ) → (if s then v ∷ (if r then rest ++ w ∷ [] else rest) else (if r then rest ++ w ∷ [] else rest)) ≡ (if r then (if s then v ∷ rest else rest) ++ w ∷ [] else (if s then v ∷ rest else rest))
+    by : (s r : Bool) (v w : List ℕ × ℕ)
+        → (if s then v ∷ (if r then rest ++ w ∷ [] else rest) else (if r then rest ++ w ∷ [] else rest)) ≡ (if r then (if s then v ∷ rest else rest) ++ w ∷ [] else (if s then v ∷ rest else rest))
     by true true v w = refl
     by true false v w = refl
     by false true v w = refl
     by false false v w = refl
 
 module _ {key : List ℕ → List ℕ} (O : IsMonomialOrder key) {F : Field} (L : IsField F) (e : ℕ) (a : List ℕ) where
-  greater_quotient : {x y : List ℕ} → IsExponents x → IsExponents y → same a (residue_by (F.characteristic ^ e) x) ≡ true → same a (residue_by (F.characteristic ^ e) y) ≡ true
+  greater_quotient : {x y : List ℕ} → IsExponents x → IsExponents y → same a (residue_by (F.characteristic ^ e) x) ≡ true
+      → same a (residue_by (F.characteristic ^ e) y) ≡ true
       → compare_by key (quotient_by (F.characteristic ^ e) x) (quotient_by (F.characteristic ^ e) y) ≡ compare_by key x y
   greater_quotient {x} {y} X Y s r =
       let q : ℕ = F.characteristic ^ e in
@@ -50,14 +52,16 @@ module _ {key : List ℕ → List ℕ} (O : IsMonomialOrder key) {F : Field} (L 
       sym (ap₂ (compare_by key) (sym (quotient-residue q x h)) (sym (quotient-residue q y h) ∙ ap (plus (times q (quotient_by q y))) (sym (same_true a _ r) ∙ same_true a _ s))
       ∙ compare_by-plus O (IsExponents-times q U) (IsExponents-times q V) (IsExponents-residue_by q X) ∙ compare_by-times O q h U V)
 
-  above_part_terms : {x : List ℕ} → IsExponents x → same a (residue_by (F.characteristic ^ e) x) ≡ true → (ts : List (List ℕ × ℕ)) → All (λ t. IsExponents t.0) ts
+  above_part_terms : {x : List ℕ} → IsExponents x → same a (residue_by (F.characteristic ^ e) x) ≡ true → (ts : List (List ℕ × ℕ))
+      → All (λ t. IsExponents t.0) ts
       → All (λ u. compare_by key x u.0 ≡ Greater) ts → All (λ u. compare_by key (quotient_by (F.characteristic ^ e) x) u.0 ≡ Greater) (part_terms F e a ts)
   unfolding part_terms
   above_part_terms {x} X s [] all above = All-nil (λ u. compare_by key (quotient_by (F.characteristic ^ e) x) u.0 ≡ Greater)
   above_part_terms {x} X s (t ∷ ts) all above =
       by (same a (residue_by (F.characteristic ^ e) t.0)) refl (above_part_terms X s ts (All-tail (λ t. IsExponents t.0) t ts all) (All-tail (λ u. compare_by key x u.0 ≡ Greater) t ts above))
     where
-      by : (r : Bool) → same a (residue_by (F.characteristic ^ e) t.0) ≡ r → All (λ u. compare_by key (quotient_by (F.characteristic ^ e) x) u.0 ≡ Greater) (part_terms F e a ts)
+      by : (r : Bool) → same a (residue_by (F.characteristic ^ e) t.0) ≡ r
+          → All (λ u. compare_by key (quotient_by (F.characteristic ^ e) x) u.0 ≡ Greater) (part_terms F e a ts)
           → All (λ u. compare_by key (quotient_by (F.characteristic ^ e) x) u.0 ≡ Greater) (if r then (quotient_by (F.characteristic ^ e) t.0, iterated_root F e t.1) ∷ part_terms F e a ts else part_terms F e a ts)
       by true r rest =
           All-cons (λ u. compare_by key (quotient_by (F.characteristic ^ e) x) u.0 ≡ Greater) (quotient_by (F.characteristic ^ e) t.0, iterated_root F e t.1) (part_terms F e a ts)
@@ -80,6 +84,15 @@ module _ {key : List ℕ → List ℕ} (O : IsMonomialOrder key) {F : Field} (L 
   -- The terms of a part fall in the order in which the polynomial's terms do.
   pub IsFalling-part_terms : (ts : List (List ℕ × ℕ)) → All (λ t. IsExponents t.0) ts → IsFalling key ts → IsFalling key (part_terms F e a ts)
   IsFalling-part_terms ts all h = IsFalling-from_Falls key (part_terms F e a ts) (Falls-part_terms ts all (Falls-from_IsFalling key ts h))
+
+  -- The last term of the list, where it is in the part, is below the part's other terms.
+  pub part_terms-last : (ts : List (List ℕ × ℕ)) (t : List ℕ × ℕ) → All (λ u. IsExponents u.0) (ts ++ t ∷ []) → IsFalling key (ts ++ t ∷ [])
+      → same a (residue_by (F.characteristic ^ e) t.0) ≡ true → All (λ u. compare_by key u.0 (quotient_by (F.characteristic ^ e) t.0) ≡ Greater) (part_terms F e a ts)
+  part_terms-last ts t all h s =
+      let b : List ℕ × ℕ = (quotient_by (F.characteristic ^ e) t.0, iterated_root F e t.1) in
+      IsFalling-last key (part_terms F e a ts) b
+      (subst (IsFalling key) (part_terms_push F e a ts t ∙ ap (λ r. if r then part_terms F e a ts ++ b ∷ [] else part_terms F e a ts) s)
+      (IsFalling-part_terms (ts ++ t ∷ []) all h))
 
 -- The list of parts: the residues of the terms in Lex, each with the terms of its part.
 unfoldable pub parts_of : Field → ℕ → Polynomial → List Part

@@ -1,29 +1,29 @@
 -- The polynomials are a ring with parts over p^e-th powers: the residues are the exponent lists with entries below p^e.
+use Rattle.std.proofs.Common.{◌≡◌, ℕ, zero, suc, ◌^◌, ◌<◌, Bool, true, false, cond, List, [], ◌∷◌, length, map, get_or, All, Contains, refl, sym, ap, ap₂, ◌∙◌, subst, arith}
+use Rattle.std.specs.List.{list_any}
+use Rattle.std.specs.FinMap.{entries, from_entries}
+use Rattle.std.proofs.lemmas.Map.Made.{is_member-Decides}
+use Rattle.std.proofs.lemmas.List.Elements.{All-map, All-head, All-tail, All-weaker, All-from_recursion, All-contains}
+use Rattle.fj_coeff.specs.Field.{Field, IsField}
+use Rattle.fj_coeff.specs.Field as field
+use Rattle.fj_algebra.specs.Parts as ring
+use Rattle.fj_theory.specs.Exponents.{IsExponents, origin, plus, times}
+use Rattle.fj_theory.specs.Polynomial.{Polynomial, IsPolynomial, coefficient, term, sum, product, IsTerm}
+use Rattle.fj_theory.specs.Parts.{Part, sum_of_parts, part_at, part_terms, iterated_root}
 use Rattle.fj_theory.proofs.Exponents.{IsExponents-origin, plus_origin, IsExponents-times, times_origin}
 use Rattle.fj_theory.proofs.Product.{K}
 use Rattle.fj_theory.proofs.Monomial.{rank_power}
 use Rattle.fj_theory.proofs.Roots.{iterated_root_zero, iterated_root-power}
 use Rattle.fj_theory.proofs.Frobenius.{power_positive, polynomial-IsFrobenius, field-IsFrobenius, same-times}
-use Rattle.std.proofs.lemmas.Map.Made.{is_member-Decides}
 use Rattle.fj_theory.proofs.PartsExistence.{residues_of-map}
 use Rattle.fj_theory.proofs.Residues.{residues_below, residues_below-exponents, in_residues_below, residues_below-entries, Distinct, Distinct-from_Rises, Rises-residues_below}
 use Rattle.fj_theory.proofs.PartsList.{IsTerm-part_terms, coefficient-part_terms}
 use Rattle.fj_theory.proofs.Field.{one_below, rank_one}
-use Rattle.std.proofs.lemmas.List.Elements.{All-map, All-head, All-tail, All-weaker, All-from_recursion, All-contains}
 use Rattle.fj_theory.proofs.Terms.{IsPolynomial-from_entries, IsTerm-entries, from_entries-entries}
 use Rattle.fj_theory.proofs.Polynomial.{IsPolynomial-term, polynomial_equal, coefficient-term}
 use Rattle.fj_theory.proofs.Parts.{part_at_All, IsFamily, whole_from_roots, part_at_unique}
 use Rattle.fj_theory.proofs.PolynomialRing.{PolynomialOver, polynomial_ring, map_zero, map_add, map_mul, over_equal, map_power, map_one}
 use Rattle.fj_theory.proofs.FormalSum.{same, same-Decides}
-use Rattle.std.proofs.Common.{◌≡◌, ℕ, zero, suc, ◌^◌, ◌<◌, Bool, true, false, cond, List, [], ◌∷◌, length, map, get_or, All, Contains, refl, sym, ap, ap₂, ◌∙◌, subst, arith}
-use Rattle.std.specs.List.{list_any}
-use Rattle.std.specs.FinMap.{entries, from_entries}
-use Rattle.fj_coeff.specs.Field as field
-use Rattle.fj_coeff.specs.Field.{Field, IsField}
-use Rattle.fj_algebra.specs.Parts as ring
-use Rattle.fj_theory.specs.Exponents.{IsExponents, origin, plus, times}
-use Rattle.fj_theory.specs.Polynomial.{Polynomial, IsPolynomial, coefficient, term, sum, product, IsTerm}
-use Rattle.fj_theory.specs.Parts.{Part, sum_of_parts, part_at, part_terms, iterated_root}
 
 -- A list cut or filled with zeros to n entries.
 fit : ℕ → List ℕ → List ℕ
@@ -71,7 +71,8 @@ module _ {F : Field} (L : IsField F) (e : ℕ) where
       ∙ ap (λ f. iterated_root F e (coefficient f (plus (times (F.characteristic ^ e) b) a))) (from_entries-entries h.map)
 
   module _ (c : List ℕ → PolynomialOver F) where
-    map-from_parts : (rs : List (List ℕ)) → All IsExponents rs → (ring.from_parts (polynomial_ring L) (F.characteristic ^ e) rs monomial_at c).map ≡ sum_of_parts F (F.characteristic ^ e) (family (λ a. (c a).map) rs)
+    map-from_parts : (rs : List (List ℕ)) → All IsExponents rs
+        → (ring.from_parts (polynomial_ring L) (F.characteristic ^ e) rs monomial_at c).map ≡ sum_of_parts F (F.characteristic ^ e) (family (λ a. (c a).map) rs)
     unfolding monomial_at sum_of_parts
     map-from_parts [] all = map_zero L
     map-from_parts (a ∷ rs) all =
@@ -92,7 +93,8 @@ module _ {F : Field} (L : IsField F) (e : ℕ) where
           polynomials = All-map (λ part. IsPolynomial F part.polynomial) make rs (λ k d h. (c (get_or rs k d)).is_polynomial);
         }
 
-  from_part_of : (h : PolynomialOver F) → h ≡ ring.from_parts (polynomial_ring L) (F.characteristic ^ e) (residues_below (F.characteristic ^ e)) monomial_at (part_of h)
+  from_part_of : (h : PolynomialOver F)
+      → h ≡ ring.from_parts (polynomial_ring L) (F.characteristic ^ e) (residues_below (F.characteristic ^ e)) monomial_at (part_of h)
   from_part_of h =
       let q : ℕ = F.characteristic ^ e in
       let rs : List (List ℕ) = residues_below q in
@@ -101,7 +103,8 @@ module _ {F : Field} (L : IsField F) (e : ℕ) where
       roots : (a b : List ℕ) → IsExponents a → All (λ k. k < F.characteristic ^ e) a → IsExponents b
           → coefficient (part_at (family (λ a. (part_of h a).map) (residues_below (F.characteristic ^ e))) a) b ≡ iterated_root F e (coefficient h.map (plus (times (F.characteristic ^ e) b) a))
       roots a b A below B =
-          ap (λ f. coefficient f b) (part_at-family (λ a. (part_of h a).map) (residues_below (F.characteristic ^ e)) a (in_residues_below (F.characteristic ^ e) A below)) ∙ coefficient-part_of h A below B
+          ap (λ f. coefficient f b) (part_at-family (λ a. (part_of h a).map) (residues_below (F.characteristic ^ e)) a (in_residues_below (F.characteristic ^ e) A below))
+          ∙ coefficient-part_of h A below B
 
   unique_parts : (c d : List ℕ → PolynomialOver F)
       → ring.from_parts (polynomial_ring L) (F.characteristic ^ e) (residues_below (F.characteristic ^ e)) monomial_at c ≡ ring.from_parts (polynomial_ring L) (F.characteristic ^ e) (residues_below (F.characteristic ^ e)) monomial_at d
@@ -127,7 +130,8 @@ module _ {F : Field} (L : IsField F) (e : ℕ) where
   one_root = ap (iterated_root F e) (sym one_power) ∙ iterated_root-power L e 1 (one_below L)
     where
       one_power : field.power F 1 (F.characteristic ^ e) ≡ 1
-      one_power = ap (λ c. field.power F c (F.characteristic ^ e)) (sym (rank_one L)) ∙ sym (rank_power L (K L).one (F.characteristic ^ e)) ∙ ap (λ x. x.rank) (field-IsFrobenius L e).ring_map.keeps_one ∙ rank_one L
+      one_power = ap (λ c. field.power F c (F.characteristic ^ e)) (sym (rank_one L)) ∙ sym (rank_power L (K L).one (F.characteristic ^ e))
+          ∙ ap (λ x. x.rank) (field-IsFrobenius L e).ring_map.keeps_one ∙ rank_one L
 
   part_of_one : part_of (polynomial_ring L).one origin ≡ (polynomial_ring L).one
   part_of_one = over_equal _ _ (polynomial_equal (part_of (polynomial_ring L).one origin).is_polynomial (polynomial_ring L).one.is_polynomial

@@ -64,7 +64,7 @@ coefficient_outside f a h = by (get f a) refl (contains_key-keys f a ∙ h)
     by None e h = coefficient-None f a e
     by (Some c) e h = absurd (true≢false h)
 
-support_found : (f : Polynomial) (a : List ℕ) → list_any (same a) (support f) ≡ true → get f a ≡ Some (coefficient f a)
+pub support_found : (f : Polynomial) (a : List ℕ) → list_any (same a) (support f) ≡ true → get f a ≡ Some (coefficient f a)
 unfolding coefficient
 support_found f a h = by (get f a) (contains_key-keys f a ∙ h)
   where
@@ -106,14 +106,16 @@ module _ (c : List ℕ → ℕ) where
   found : List ℕ → Bool → Option ℕ
   found a t = cond (t && not (c a == 0)) (Some (c a)) None
 
-  found_next : (a b : List ℕ) (L : List (List ℕ)) (t : Bool) → same a b ≡ t → (r : Bool) → (c b == 0) ≡ r → get (with_coefficients c L) a ≡ found a (list_any (same a) L)
+  found_next : (a b : List ℕ) (L : List (List ℕ)) (t : Bool) → same a b ≡ t → (r : Bool) → (c b == 0) ≡ r
+      → get (with_coefficients c L) a ≡ found a (list_any (same a) L)
       → get (cond r (with_coefficients c L) (insert (with_coefficients c L) b (c b))) a ≡ found a (t || list_any (same a) L)
   unfolding found
   found_next a b L false s true e rec = rec
   found_next a b L true s true e rec =
       let z : (c a == 0) ≡ true = ap (λ d. c d == 0) (same_true a b s) ∙ e in
       rec ∙ nothing (list_any (same a) L) (c a == 0) (Some (c a)) z ∙ sym (nothing true (c a == 0) (Some (c a)) z)
-  found_next a b L false s false e rec = get-insert nat_list_cmp_total (with_coefficients c L) b (c b) a ∙ ap (λ t. cond t (Some (c b)) (get (with_coefficients c L) a)) s ∙ rec
+  found_next a b L false s false e rec = get-insert nat_list_cmp_total (with_coefficients c L) b (c b) a
+      ∙ ap (λ t. cond t (Some (c b)) (get (with_coefficients c L) a)) s ∙ rec
   found_next a b L true s false e rec =
       let z : (c a == 0) ≡ false = ap (λ d. c d == 0) (same_true a b s) ∙ e in
       get-insert nat_list_cmp_total (with_coefficients c L) b (c b) a ∙ ap (λ t. cond t (Some (c b)) (get (with_coefficients c L) a)) s
@@ -151,7 +153,8 @@ module _ (c : List ℕ → ℕ) where
       (λ a h. All_same P L a all (found_some a (coefficient f a) (list_any (same a) L) (c a == 0) refl (sym (get_found a L) ∙ support_found f a h)).0)
       (support f) (All-is_member (eq_by_cmp_equiv nat_list_cmp_total) (support f))
 
-  pub IsPolynomial-with_coefficients : {F : Field} (L : List (List ℕ)) → All IsExponents L → All (λ a. c a < F.size) L → IsPolynomial F (with_coefficients c L)
+  pub IsPolynomial-with_coefficients : {F : Field} (L : List (List ℕ)) → All IsExponents L → All (λ a. c a < F.size) L
+      → IsPolynomial F (with_coefficients c L)
   unfolding found
   IsPolynomial-with_coefficients {F} L exponents below =
       let at : (a : List ℕ) (d : ℕ) → get (with_coefficients c L) a ≡ Some d → (list_any (same a) L ≡ true) × (d ≡ c a) × (0 < d) =
@@ -187,9 +190,11 @@ coefficient-term_same c a = coefficient-term c a a ∙ ap (λ t. cond t c 0) (sa
 module _ {F : Field} (L : IsField F) where
   pub coefficient-sum : (f g : Polynomial) (a : List ℕ) → coefficient (sum F f g) a ≡ F.add (coefficient f a) (coefficient g a)
   unfolding sum
-  coefficient-sum f g a = coefficient-with_coefficients (λ b. F.add (coefficient f b) (coefficient g b)) a (support f ++ support g) ∙ by (list_any (same a) (support f ++ support g)) refl
+  coefficient-sum f g a = coefficient-with_coefficients (λ b. F.add (coefficient f b) (coefficient g b)) a (support f ++ support g)
+      ∙ by (list_any (same a) (support f ++ support g)) refl
     where
-      by : (t : Bool) → list_any (same a) (support f ++ support g) ≡ t → cond t (F.add (coefficient f a) (coefficient g a)) 0 ≡ F.add (coefficient f a) (coefficient g a)
+      by : (t : Bool) → list_any (same a) (support f ++ support g) ≡ t
+          → cond t (F.add (coefficient f a) (coefficient g a)) 0 ≡ F.add (coefficient f a) (coefficient g a)
       by true e = refl
       by false e =
           let parts = or_parts _ _ (sym (list_any-append (same a) (support f) (support g)) ∙ e) in

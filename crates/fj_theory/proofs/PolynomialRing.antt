@@ -3,11 +3,11 @@ use Rattle.std.proofs.Common.{◌≡◌, ℕ, zero, suc, ◌+◌, ◌*◌, ◌<�
 use Rattle.std.specs.List.{list_any}
 use Rattle.std.specs.FinMap.{empty}
 use Rattle.fj_coeff.specs.Field.{Field, IsField}
+use Rattle.fj_algebra.specs.Power as ring
 use Rattle.fj_algebra.specs.Ring.{CommutativeRing}
 use Rattle.fj_algebra.specs.Sum.{sum_over}
-use Rattle.fj_algebra.specs.Power as ring
-use Rattle.fj_algebra.proofs.Ring.{add_zero, add_mul, mul_zero}
 use Rattle.fj_algebra.proofs.Power.{power-add, power-mul, power-power}
+use Rattle.fj_algebra.proofs.Ring.{add_zero, add_mul, mul_zero}
 use Rattle.fj_algebra.proofs.Sum.{sum_over-same, sum_over-exchange, sum_over-add}
 use Rattle.fj_theory.specs.Exponents.{IsExponents, origin, plus}
 use Rattle.fj_theory.specs.Polynomial.{Polynomial, IsPolynomial, coefficient, support, term, sum, negation, product, power}
@@ -19,11 +19,7 @@ use Rattle.fj_theory.proofs.Product.{K, terms, coefficient_in-terms, terms_expon
 use native.Mathlib.Bridge.{le_prop}
 use native.Mathlib.Nat.{ℕ_set}
 use mathlib.Core.HLevel.{Σ_prop_path}
-
--- A polynomial over the field: the map with what makes it a polynomial.
-pub record PolynomialOver (F : Field) : Type 0 where
-  pub map : Polynomial
-  pub is_polynomial : IsPolynomial F map
+pub use Rattle.fj_theory.specs.Polynomial.{PolynomialOver}
 
 IsPolynomial-prop : (F : Field) (f : Polynomial) → IsProp (IsPolynomial F f)
 IsPolynomial-prop F f = hlevel (le_prop, ℕ_set)
@@ -35,12 +31,14 @@ over_equal {F} f g e =
 
 module _ {F : Field} (L : IsField F) where
   -- Polynomials with the same formal coefficients are equal.
-  pub from_terms : {f g : Polynomial} → IsPolynomial F f → IsPolynomial F g → ((a : List ℕ) → coefficient_in (K L) (terms L f) a ≡ coefficient_in (K L) (terms L g) a) → f ≡ g
+  pub from_terms : {f g : Polynomial} → IsPolynomial F f → IsPolynomial F g
+      → ((a : List ℕ) → coefficient_in (K L) (terms L f) a ≡ coefficient_in (K L) (terms L g) a) → f ≡ g
   from_terms {f} {g} P Q e =
       polynomial_equal P Q (λ a A. sym (rank_element L _ (coefficient_below P (zero_below L) a))
-      ∙ ap (λ x. x.rank) (sym (coefficient_in-terms L f a) ∙ e a ∙ coefficient_in-terms L g a) ∙ rank_element L _ (coefficient_below Q (zero_below L) a))
+      ∙ ap (λ x. x.rank) (sym (coefficient_in-terms L f a) ∙ e a ∙ coefficient_in-terms L g a)
+      ∙ rank_element L _ (coefficient_below Q (zero_below L) a))
 
-  neg_zero_rank : F.neg 0 ≡ 0
+  pub neg_zero_rank : F.neg 0 ≡ 0
   neg_zero_rank =
       let n = L.neg_below 0 (zero_below L) in
       sym (L.add_zero (F.neg 0) n) ∙ L.add_comm (F.neg 0) 0 n (zero_below L) ∙ L.add_neg 0 (zero_below L)
@@ -61,9 +59,11 @@ module _ {F : Field} (L : IsField F) where
   pub weigh-empty : {B : Type 0} {S : CommutativeRing B} {w : List ℕ → Element F → B} → IsAdditive (K L) S w → weigh S w (terms L empty) ≡ S.zero
   weigh-empty {S} {w} W = weigh_same W (terms L empty) [] (λ a. coefficient_in-terms L empty a ∙ ap (element L) (coefficient-empty a) ∙ element_zero L)
 
-  pub weigh-term : {B : Type 0} {S : CommutativeRing B} {w : List ℕ → Element F → B} → IsAdditive (K L) S w → (c : ℕ) (a : List ℕ) → weigh S w (terms L (term c a)) ≡ w a (element L c)
+  pub weigh-term : {B : Type 0} {S : CommutativeRing B} {w : List ℕ → Element F → B} → IsAdditive (K L) S w → (c : ℕ) (a : List ℕ)
+      → weigh S w (terms L (term c a)) ≡ w a (element L c)
   weigh-term {S} {w} W c a =
-      weigh_same W (terms L (term c a)) ((a, element L c) ∷ []) (λ b. coefficient_in-terms L (term c a) b ∙ ap (element L) (coefficient-term c a b) ∙ by (same b a) ∙ sym (add_zero (K L) _)) ∙ add_zero S _
+      weigh_same W (terms L (term c a)) ((a, element L c) ∷ []) (λ b. coefficient_in-terms L (term c a) b ∙ ap (element L) (coefficient-term c a b) ∙ by (same b a) ∙ sym (add_zero (K L) _))
+      ∙ add_zero S _
     where
       by : (t : Bool) → element L (cond t c 0) ≡ cond t (element L c) (K L).zero
       by true = refl
@@ -86,7 +86,8 @@ module _ {F : Field} (L : IsField F) where
   }
 
   module _ {f g : Polynomial} (P : IsPolynomial F f) (Q : IsPolynomial F g) where
-    product_terms : (a : List ℕ) → coefficient_in (K L) (terms L (product F f g)) a ≡ sum_over (K L) (λ e. weigh (K L) (meets a e.0 e.1) (terms L g)) (terms L f)
+    product_terms : (a : List ℕ)
+        → coefficient_in (K L) (terms L (product F f g)) a ≡ sum_over (K L) (λ e. weigh (K L) (meets a e.0 e.1) (terms L g)) (terms L f)
     unfolding meets
     product_terms a = weigh-product L P Q (at_exponents-IsAdditive (K L) a)
 
@@ -219,18 +220,21 @@ module _ {F : Field} (L : IsField F) where
     pub power_add : (m n : ℕ) → power F f (m + n) ≡ product F (power F f m) (power F f n)
     unfolding over
     power_add m n =
-        sym (map_power over (m + n)) ∙ ap (λ x. x.map) (power-add polynomial_ring over m n) ∙ map_mul _ _ ∙ ap₂ (product F) (map_power over m) (map_power over n)
+        sym (map_power over (m + n)) ∙ ap (λ x. x.map) (power-add polynomial_ring over m n) ∙ map_mul _ _
+        ∙ ap₂ (product F) (map_power over m) (map_power over n)
 
     pub power_power : (m n : ℕ) → power F (power F f m) n ≡ power F f (m * n)
     unfolding over
     power_power m n =
-        ap (λ h. power F h n) (sym (map_power over m)) ∙ sym (map_power (ring.power polynomial_ring over m) n) ∙ ap (λ x. x.map) (power-power polynomial_ring over m n) ∙ map_power over (m * n)
+        ap (λ h. power F h n) (sym (map_power over m)) ∙ sym (map_power (ring.power polynomial_ring over m) n)
+        ∙ ap (λ x. x.map) (power-power polynomial_ring over m n) ∙ map_power over (m * n)
 
     pub power_product : {g : Polynomial} → IsPolynomial F g → (n : ℕ) → power F (product F f g) n ≡ product F (power F f n) (power F g n)
     unfolding over
     power_product {g} Q n =
         let other : PolynomialOver F = record { map = g; is_polynomial = Q } in
-        ap (λ h. power F h n) (sym (map_mul over other)) ∙ sym (map_power (polynomial_ring.mul over other) n) ∙ ap (λ x. x.map) (power-mul polynomial_ring over other n)
+        ap (λ h. power F h n) (sym (map_mul over other)) ∙ sym (map_power (polynomial_ring.mul over other) n)
+        ∙ ap (λ x. x.map) (power-mul polynomial_ring over other n)
         ∙ map_mul _ _ ∙ ap₂ (product F) (map_power over n) (map_power other n)
 
     pub product_empty : product F f empty ≡ empty

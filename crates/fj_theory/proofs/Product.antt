@@ -40,7 +40,8 @@ pub T_right : (a b : Bool) → T (a && b) → T b
 T_right true b h = h
 T_right false b h = absurd h
 
-pub All_above : {X : Type 0} (x : List ℕ) (es : List (List ℕ × X)) → T (below_all (slice_cmp nat_cmp) x es) → All (λ e. slice_cmp nat_cmp x e.0 ≡ Less) es
+pub All_above : {X : Type 0} (x : List ℕ) (es : List (List ℕ × X)) → T (below_all (slice_cmp nat_cmp) x es)
+    → All (λ e. slice_cmp nat_cmp x e.0 ≡ Less) es
 All_above x [] h = All-nil (λ e. slice_cmp nat_cmp x e.0 ≡ Less)
 All_above x (e ∷ es) h = All-cons (λ d. slice_cmp nat_cmp x d.0 ≡ Less) e es (is_lt-Less _ (T_left _ _ h)) (All_above x es (T_right _ _ h))
 
@@ -50,7 +51,8 @@ below_not_same x y l = ap is_eq l
 below_not_same_back : (x y : List ℕ) → slice_cmp nat_cmp x y ≡ Less → same y x ≡ false
 below_not_same_back x y l = ap is_eq (nat_list_cmp_total.antisymm y x ∙ ap ordering_reverse l)
 
-entries_found : {X : Type 0} (es : List (List ℕ × X)) → T (is_sorted (slice_cmp nat_cmp) es) → All (λ e. find (slice_cmp nat_cmp) e.0 es ≡ Some e.1) es
+entries_found : {X : Type 0} (es : List (List ℕ × X)) → T (is_sorted (slice_cmp nat_cmp) es)
+    → All (λ e. find (slice_cmp nat_cmp) e.0 es ≡ Some e.1) es
 entries_found [] h = All-nil (λ e. find (slice_cmp nat_cmp) e.0 [] ≡ Some e.1)
 entries_found {X} (e ∷ es) h =
     let above = All_above e.0 es (T_left _ _ h) in
@@ -84,14 +86,16 @@ module _ {F : Field} (L : IsField F) where
       ap (λ t. K.add (cond t (element L e.1) K.zero) (coefficient_in K (lift es) a)) (below_not_same a e.0 (All-head (λ d. slice_cmp nat_cmp a d.0 ≡ Less) e es all))
       ∙ zero_add K _ ∙ lift_above a es (All-tail (λ d. slice_cmp nat_cmp a d.0 ≡ Less) e es all)
 
-  lift_coefficient : (a : List ℕ) (es : List (List ℕ × ℕ)) → T (is_sorted (slice_cmp nat_cmp) es) → coefficient_in K (lift es) a ≡ element L (unwrap_or (find (slice_cmp nat_cmp) a es) 0)
+  lift_coefficient : (a : List ℕ) (es : List (List ℕ × ℕ)) → T (is_sorted (slice_cmp nat_cmp) es)
+      → coefficient_in K (lift es) a ≡ element L (unwrap_or (find (slice_cmp nat_cmp) a es) 0)
   lift_coefficient a [] h = sym (element_zero L)
   lift_coefficient a (e ∷ es) h = by (same a e.0) refl (lift_coefficient a es (T_right _ _ h))
     where
       by : (t : Bool) → same a e.0 ≡ t → coefficient_in K (lift es) a ≡ element L (unwrap_or (find (slice_cmp nat_cmp) a es) 0)
           → K.add (cond t (element L e.1) K.zero) (coefficient_in K (lift es) a) ≡ element L (unwrap_or (cond t (Some e.1) (find (slice_cmp nat_cmp) a es)) 0)
       by true s rec =
-          ap (K.add (element L e.1)) (ap (coefficient_in K (lift es)) (same_true a e.0 s) ∙ lift_above e.0 es (All_above e.0 es (T_left _ _ h))) ∙ add_zero K _
+          ap (K.add (element L e.1)) (ap (coefficient_in K (lift es)) (same_true a e.0 s) ∙ lift_above e.0 es (All_above e.0 es (T_left _ _ h)))
+          ∙ add_zero K _
       by false s rec = zero_add K _ ∙ rec
 
   -- The coefficients of the terms as a formal sum are the polynomial's.
@@ -124,18 +128,22 @@ module _ {A B : Type 0} (R : CommutativeRing A) (S : CommutativeRing B) (w : Lis
 abbrev pub exponents_of : {A : Type 0} → FormalSum A → List (List ℕ)
 exponents_of es = map (λ e. e.0) es
 
-exponents_of-row : {A : Type 0} (b : List ℕ) (f : A → A) (fs : FormalSum A) → exponents_of (map {B = List ℕ × A} (λ (d : List ℕ × A). (plus b d.0, f d.1)) fs) ≡ map (plus b) (exponents_of fs)
+exponents_of-row : {A : Type 0} (b : List ℕ) (f : A → A) (fs : FormalSum A)
+    → exponents_of (map {B = List ℕ × A} (λ (d : List ℕ × A). (plus b d.0, f d.1)) fs) ≡ map (plus b) (exponents_of fs)
 exponents_of-row b f [] = refl
 exponents_of-row b f (d ∷ fs) = ap (λ ks. plus b d.0 ∷ ks) (exponents_of-row b f fs)
 
-exponents_of-pairs : {A : Type 0} (R : CommutativeRing A) (es fs : FormalSum A) → exponents_of (pairs R es fs) ≡ flat_map (λ b. map (plus b) (exponents_of fs)) (exponents_of es)
+exponents_of-pairs : {A : Type 0} (R : CommutativeRing A) (es fs : FormalSum A)
+    → exponents_of (pairs R es fs) ≡ flat_map (λ b. map (plus b) (exponents_of fs)) (exponents_of es)
 unfolding pairs
 exponents_of-pairs R [] fs = refl
 exponents_of-pairs {A} R (e ∷ es) fs =
-    map-append (λ (d : List ℕ × A). d.0) (map (λ (d : List ℕ × A). (plus e.0 d.0, R.mul e.1 d.1)) fs) (pairs R es fs) ∙ ap₂ ◌++◌ (exponents_of-row e.0 (R.mul e.1) fs) (exponents_of-pairs R es fs)
+    map-append (λ (d : List ℕ × A). d.0) (map (λ (d : List ℕ × A). (plus e.0 d.0, R.mul e.1 d.1)) fs) (pairs R es fs)
+    ∙ ap₂ ◌++◌ (exponents_of-row e.0 (R.mul e.1) fs) (exponents_of-pairs R es fs)
 
 -- A formal sum has no coefficient where it has no term.
-coefficient_in_outside : {A : Type 0} (R : CommutativeRing A) (es : FormalSum A) (a : List ℕ) → list_any (same a) (exponents_of es) ≡ false → coefficient_in R es a ≡ R.zero
+coefficient_in_outside : {A : Type 0} (R : CommutativeRing A) (es : FormalSum A) (a : List ℕ) → list_any (same a) (exponents_of es) ≡ false
+    → coefficient_in R es a ≡ R.zero
 coefficient_in_outside R [] a h = refl
 coefficient_in_outside R (e ∷ es) a h =
     let parts = or_parts (same a e.0) _ h in
@@ -151,7 +159,8 @@ same-plus {a} {b} {c} A B C d = same_tests (same a (plus b c)) (same (minus a b)
     back : minus a b ≡ c → same a (plus b c) ≡ true
     back e = ap (same a) (ap (plus b) (sym e) ∙ plus-minus B A d) ∙ same_itself a
 
-    same_tests : (s t : Bool) → (s ≡ true → a ≡ plus b c) → (t ≡ true → minus a b ≡ c) → (a ≡ plus b c → t ≡ true) → (minus a b ≡ c → s ≡ true) → s ≡ t
+    same_tests : (s t : Bool) → (s ≡ true → a ≡ plus b c) → (t ≡ true → minus a b ≡ c) → (a ≡ plus b c → t ≡ true) → (minus a b ≡ c → s ≡ true)
+        → s ≡ t
     same_tests true t p q f g = sym (f (p refl))
     same_tests false true p q f g = g (q refl)
     same_tests false false p q f g = refl
@@ -169,12 +178,14 @@ module _ {F : Field} (L : IsField F) where
       → sum_over (K L) (λ d. at_exponents (K L) a (plus b d.0) ((K L).mul x d.1)) fs ≡ cond (divides b a) ((K L).mul x (coefficient_in (K L) fs (minus a b))) (K L).zero
   row_coefficient {a} {b} x fs A B all = by (divides b a) refl
     where
-      by : (t : Bool) → divides b a ≡ t → sum_over (K L) (λ d. at_exponents (K L) a (plus b d.0) ((K L).mul x d.1)) fs ≡ cond t ((K L).mul x (coefficient_in (K L) fs (minus a b))) (K L).zero
+      by : (t : Bool) → divides b a ≡ t
+          → sum_over (K L) (λ d. at_exponents (K L) a (plus b d.0) ((K L).mul x d.1)) fs ≡ cond t ((K L).mul x (coefficient_in (K L) fs (minus a b))) (K L).zero
       by true e =
           sum_over_each (K L) _ (λ d. (K L).mul x (at_exponents (K L) (minus a b) d.0 d.1)) fs
           (λ k d h. ap (λ t. cond t ((K L).mul x (get_or fs k d).1) (K L).zero) (same-plus A B (all k d h) e) ∙ mul_cond _ x _)
           ∙ sum_over-mul (K L) x (λ d. at_exponents (K L) (minus a b) d.0 d.1) fs
-      by false e = sum_over_each (K L) _ (λ d. (K L).zero) fs (λ k d h. ap (λ t. cond t ((K L).mul x (get_or fs k d).1) (K L).zero) (same-plus_not a B (all k d h) e)) ∙ sum_over-zero (K L) fs
+      by false e = sum_over_each (K L) _ (λ d. (K L).zero) fs (λ k d h. ap (λ t. cond t ((K L).mul x (get_or fs k d).1) (K L).zero) (same-plus_not a B (all k d h) e))
+          ∙ sum_over-zero (K L) fs
 
   -- Sums of ranks in the field are sums in the ring.
   pub total_over_below : (c : List ℕ → ℕ) → ((b : List ℕ) → c b < F.size) → (xs : List (List ℕ)) → total_over F c xs < F.size
@@ -182,12 +193,15 @@ module _ {F : Field} (L : IsField F) where
   total_over_below c h [] = zero_below L
   total_over_below c h (x ∷ xs) = L.add_below (c x) (total_over F c xs) (h x) (total_over_below c h xs)
 
-  pub element-total_over : (c : List ℕ → ℕ) → ((b : List ℕ) → c b < F.size) → (xs : List (List ℕ)) → element L (total_over F c xs) ≡ sum_over (K L) (λ b. element L (c b)) xs
+  pub element-total_over : (c : List ℕ → ℕ) → ((b : List ℕ) → c b < F.size) → (xs : List (List ℕ))
+      → element L (total_over F c xs) ≡ sum_over (K L) (λ b. element L (c b)) xs
   unfolding total_over
   element-total_over c h [] = element_zero L
-  element-total_over c h (x ∷ xs) = element_add L (c x) (total_over F c xs) (h x) (total_over_below c h xs) ∙ ap ((K L).add (element L (c x))) (element-total_over c h xs)
+  element-total_over c h (x ∷ xs) = element_add L (c x) (total_over F c xs) (h x) (total_over_below c h xs)
+      ∙ ap ((K L).add (element L (c x))) (element-total_over c h xs)
 
-  element_cond : (t : Bool) (c d : ℕ) → c < F.size → d < F.size → element L (cond t (F.mul c d) 0) ≡ cond t ((K L).mul (element L c) (element L d)) (K L).zero
+  element_cond : (t : Bool) (c d : ℕ) → c < F.size → d < F.size
+      → element L (cond t (F.mul c d) 0) ≡ cond t ((K L).mul (element L c) (element L d)) (K L).zero
   element_cond true c d h g = element_mul L c d h g
   element_cond false c d h g = element_zero L
 
@@ -204,7 +218,8 @@ module _ {F : Field} (L : IsField F) where
     convolution_below a = total_over_below (λ b. cond (divides b a) (F.mul (coefficient f b) (coefficient g (minus a b))) 0) (at_most a) (support f)
 
     -- The coefficient of the formal product is the convolution.
-    coefficient_in-pairs : {a : List ℕ} → IsExponents a → coefficient_in (K L) (pairs (K L) (terms L f) (terms L g)) a ≡ element L (convolution F f g a)
+    coefficient_in-pairs : {a : List ℕ} → IsExponents a
+        → coefficient_in (K L) (pairs (K L) (terms L f) (terms L g)) a ≡ element L (convolution F f g a)
     unfolding convolution
     coefficient_in-pairs {a} A =
         weigh-pairs (K L) (K L) (at_exponents (K L) a) (terms L f) (terms L g)
@@ -246,23 +261,28 @@ module _ {F : Field} (L : IsField F) where
         exponents = flat_map (λ b. map (plus b) (support g)) (support f)
 
         listed : exponents_of (pairs (K L) (terms L f) (terms L g)) ≡ exponents
-        listed = exponents_of-pairs (K L) (terms L f) (terms L g) ∙ ap₂ (λ bs cs. flat_map (λ b. map (plus b) cs) bs) (keys_lift L (entries f)) (keys_lift L (entries g))
+        listed = exponents_of-pairs (K L) (terms L f) (terms L g)
+            ∙ ap₂ (λ bs cs. flat_map (λ b. map (plus b) cs) bs) (keys_lift L (entries f)) (keys_lift L (entries g))
 
-        by : (t : Bool) → list_any (same a) exponents ≡ t → element L (cond t (convolution F f g a) 0) ≡ coefficient_in (K L) (pairs (K L) (terms L f) (terms L g)) a
+        by : (t : Bool) → list_any (same a) exponents ≡ t
+            → element L (cond t (convolution F f g a) 0) ≡ coefficient_in (K L) (pairs (K L) (terms L f) (terms L g)) a
         by true e = sym (coefficient_in-pairs (All_same IsExponents exponents a product_exponents e))
         by false e = element_zero L ∙ sym (coefficient_in_outside (K L) (pairs (K L) (terms L f) (terms L g)) a (ap (list_any (same a)) listed ∙ e))
 
     pub coefficient-product : {a : List ℕ} → IsExponents a → coefficient (product F f g) a ≡ convolution F f g a
     coefficient-product {a} A =
-        sym (rank_element L _ (coefficient_below IsPolynomial-product (zero_below L) a)) ∙ ap (λ x. x.rank) (coefficient_in-product a ∙ coefficient_in-pairs A) ∙ rank_element L _ (convolution_below a)
+        sym (rank_element L _ (coefficient_below IsPolynomial-product (zero_below L) a))
+        ∙ ap (λ x. x.rank) (coefficient_in-product a ∙ coefficient_in-pairs A) ∙ rank_element L _ (convolution_below a)
 
     -- The weight of a product.
     pub weigh-product : {B : Type 0} {S : CommutativeRing B} {w : List ℕ → Element F → B} → IsAdditive (K L) S w
         → weigh S w (terms L (product F f g)) ≡ sum_over S (λ e. sum_over S (λ d. w (plus e.0 d.0) ((K L).mul e.1 d.1)) (terms L g)) (terms L f)
     weigh-product {S} {w} W =
-        weigh_same W (terms L (product F f g)) (pairs (K L) (terms L f) (terms L g)) (λ a. coefficient_in-terms L (product F f g) a ∙ coefficient_in-product a) ∙ weigh-pairs (K L) S w (terms L f) (terms L g)
+        weigh_same W (terms L (product F f g)) (pairs (K L) (terms L f) (terms L g)) (λ a. coefficient_in-terms L (product F f g) a ∙ coefficient_in-product a)
+        ∙ weigh-pairs (K L) S w (terms L f) (terms L g)
 
-    pub weigh-sum : {B : Type 0} {S : CommutativeRing B} {w : List ℕ → Element F → B} → IsAdditive (K L) S w → weigh S w (terms L (sum F f g)) ≡ S.add (weigh S w (terms L f)) (weigh S w (terms L g))
+    pub weigh-sum : {B : Type 0} {S : CommutativeRing B} {w : List ℕ → Element F → B} → IsAdditive (K L) S w
+        → weigh S w (terms L (sum F f g)) ≡ S.add (weigh S w (terms L f)) (weigh S w (terms L g))
     weigh-sum {S} {w} W =
         weigh_same W (terms L (sum F f g)) (terms L f ++ terms L g)
         (λ a. coefficient_in-terms L (sum F f g) a ∙ ap (element L) (coefficient-sum L f g a) ∙ element_add L _ _ (coefficient_below P (zero_below L) a) (coefficient_below Q (zero_below L) a)

@@ -1,5 +1,6 @@
 -- Exponent lists by quotient and residue modulo q, and the residues.
 use Rattle.std.proofs.Common.{◌≡◌, ℕ, zero, suc, ◌+◌, ◌*◌, ◌/◌, ◌%◌, ◌<◌, ◌≤◌, Bool, true, false, cond, List, [], ◌∷◌, ◌++◌, length, map, flat_map, All, nat_cmp, Less, refl, sym, ap, ap₂, ◌∙◌, arith, mod-lt, T, ◌==◌, ◌||◌, is_eq, eqb-true}
+use Rattle.std.specs.List.Sorted.{IsStrictlySortedBy}
 use Rattle.std.specs.List.{list_any, range_with_len}
 use Rattle.std.specs.Cmp.Lexicographic.{slice_cmp}
 use Rattle.std.specs.Ordering.{ordering_then}
@@ -8,7 +9,7 @@ use Rattle.std.proofs.lemmas.Bool.{true≢false, eqb-false, or_left, or_right}
 use Rattle.std.proofs.lemmas.List.Folds.{list_any-append}
 use Rattle.std.proofs.lemmas.Cmp.{nat_list_cmp_total, nat_cmp_total, tied_itself}
 use Rattle.std.proofs.lemmas.List.{length-map}
-use Rattle.std.proofs.lemmas.List.Elements.{All-nil, All-cons, All-head, All-tail, All-append, All-map, All-weaker}
+use Rattle.std.proofs.lemmas.List.Elements.{All-from_recursion, All-nil, All-cons, All-head, All-tail, All-append, All-map, All-weaker}
 use Rattle.fj_theory.specs.Exponents.{IsExponents, plus, times, quotient_by, residue_by}
 use Rattle.fj_theory.specs.MonomialOrder.{compare_by, lex_key, IsRising}
 use Rattle.fj_theory.specs.Polynomial.{Polynomial, support, with_coefficients}
@@ -109,6 +110,15 @@ IsRising-from_Rises (a ∷ b ∷ more) all h =
     let later = All-tail IsExponents a (b ∷ more) all in
     (compare_by-lex_key (All-head IsExponents a (b ∷ more) all) (All-head IsExponents b more later) ∙ All-head (λ c. slice_cmp nat_cmp a c ≡ Less) b more h.0, IsRising-from_Rises (b ∷ more) later h.1)
 
+Rises-from_IsStrictlySortedBy : (rs : List (List ℕ)) → IsStrictlySortedBy (slice_cmp nat_cmp) rs → Rises rs
+unfolding IsStrictlySortedBy
+Rises-from_IsStrictlySortedBy [] h = tt
+Rises-from_IsStrictlySortedBy (a ∷ more) h = (All-from_recursion (λ b. slice_cmp nat_cmp a b ≡ Less) more h.0, Rises-from_IsStrictlySortedBy more h.1)
+
+-- Exponent lists that rise as lists of numbers, as the keys of a map do, rise in Lex.
+pub IsRising-from_IsStrictlySortedBy : (rs : List (List ℕ)) → All IsExponents rs → IsStrictlySortedBy (slice_cmp nat_cmp) rs → IsRising lex_key rs
+IsRising-from_IsStrictlySortedBy rs all h = IsRising-from_Rises rs all (Rises-from_IsStrictlySortedBy rs h)
+
 pub Distinct-from_Rises : (rs : List (List ℕ)) → Rises rs → Distinct rs
 Distinct-from_Rises [] h = tt
 Distinct-from_Rises (a ∷ more) h = (All-weaker (λ b. slice_cmp nat_cmp a b ≡ Less) (λ b. same a b ≡ false) (λ b l. below_not_same a b l) more h.0, Distinct-from_Rises more h.1)
@@ -142,7 +152,8 @@ in_range : (a n k : ℕ) → a ≤ k → k < a + n → list_any (λ j. k == j) (
 in_range a zero k h g = absurd (omega arith)
 in_range a (suc n) k h g = by (k == a) refl (λ l. in_range (a + 1) n k l (omega arith))
   where
-    by : (t : Bool) → (k == a) ≡ t → (a + 1 ≤ k → list_any (λ j. k == j) (range_with_len (a + 1) n) ≡ true) → (t || list_any (λ j. k == j) (range_with_len (a + 1) n)) ≡ true
+    by : (t : Bool) → (k == a) ≡ t → (a + 1 ≤ k → list_any (λ j. k == j) (range_with_len (a + 1) n) ≡ true)
+        → (t || list_any (λ j. k == j) (range_with_len (a + 1) n)) ≡ true
     by true e later = refl
     by false e later = let apart = eqb-false k a e in later (omega arith)
 
@@ -153,7 +164,8 @@ in_row : (k : ℕ) (b : List ℕ) (cs : List (List ℕ)) → list_any (same (k �
 in_row k b [] = refl
 in_row k b (c ∷ cs) = ap₂ ◌||◌ (same_cons k b c) (in_row k b cs)
 
-in_rows : (k : ℕ) (b : List ℕ) (cs : List (List ℕ)) (js : List ℕ) → list_any (λ j. k == j) js ≡ true → list_any (same b) cs ≡ true → list_any (same (k ∷ b)) (flat_map (λ j. map (λ c. j ∷ c) cs) js) ≡ true
+in_rows : (k : ℕ) (b : List ℕ) (cs : List (List ℕ)) (js : List ℕ) → list_any (λ j. k == j) js ≡ true → list_any (same b) cs ≡ true
+    → list_any (same (k ∷ b)) (flat_map (λ j. map (λ c. j ∷ c) cs) js) ≡ true
 in_rows k b cs [] h g = absurd (true≢false (sym h))
 in_rows k b cs (j ∷ js) h g =
     list_any-append (same (k ∷ b)) (map (λ c. j ∷ c) cs) (flat_map (λ i. map (λ c. i ∷ c) cs) js) ∙ by (k == j) refl h (λ l. in_rows k b cs js l g)
@@ -164,7 +176,8 @@ in_rows k b cs (j ∷ js) h g =
     others : List (List ℕ)
     others = flat_map (λ i. map (λ c. i ∷ c) cs) js
 
-    by : (t : Bool) → (k == j) ≡ t → (t || list_any (λ i. k == i) js) ≡ true → (list_any (λ i. k == i) js ≡ true → list_any row others ≡ true) → (list_any row (map (λ c. j ∷ c) cs) || list_any row others) ≡ true
+    by : (t : Bool) → (k == j) ≡ t → (t || list_any (λ i. k == i) js) ≡ true → (list_any (λ i. k == i) js ≡ true → list_any row others ≡ true)
+        → (list_any row (map (λ c. j ∷ c) cs) || list_any row others) ≡ true
     by true e l later = or_left _ _ (ap (λ i. list_any row (map (λ c. i ∷ c) cs)) (sym (eqb-true k j e)) ∙ in_row k b cs ∙ g)
     by false e l later = or_right _ _ (later l)
 
@@ -188,7 +201,8 @@ unfolding lists_below
 lists_below_lengths q zero = All-cons (λ a. length a ≡ 0) [] [] refl (All-nil (λ a. length a ≡ 0))
 lists_below_lengths q (suc n) = rows (numbers_below q) (lists_below_lengths q n)
   where
-    rows : (js : List ℕ) → All (λ a. length a ≡ n) (lists_below q n) → All (λ a. length a ≡ suc n) (flat_map (λ k. map (λ a. k ∷ a) (lists_below q n)) js)
+    rows : (js : List ℕ) → All (λ a. length a ≡ n) (lists_below q n)
+        → All (λ a. length a ≡ suc n) (flat_map (λ k. map (λ a. k ∷ a) (lists_below q n)) js)
     rows [] all = All-nil (λ a. length a ≡ suc n)
     rows (k ∷ js) all = All-append (λ a. length a ≡ suc n) (map (λ a. k ∷ a) (lists_below q n)) _ (All-map (λ a. length a ≡ suc n) (λ a. k ∷ a) (lists_below q n) (λ j d h. ap suc (all j d h))) (rows js all)
 
@@ -201,7 +215,8 @@ unfolding lists_below
 lists_below_entries q zero = All-cons (λ a. All (λ k. k < q) a) [] [] (All-nil (λ k. k < q)) (All-nil (λ a. All (λ k. k < q) a))
 lists_below_entries q (suc n) = rows (numbers_below q) (All-weaker (λ k. k < 0 + q) (λ k. k < q) (λ k h. omega arith) _ (range_bounded 0 q)) (lists_below_entries q n)
   where
-    rows : (js : List ℕ) → All (λ k. k < q) js → All (λ a. All (λ k. k < q) a) (lists_below q n) → All (λ a. All (λ k. k < q) a) (flat_map (λ k. map (λ a. k ∷ a) (lists_below q n)) js)
+    rows : (js : List ℕ) → All (λ k. k < q) js → All (λ a. All (λ k. k < q) a) (lists_below q n)
+        → All (λ a. All (λ k. k < q) a) (flat_map (λ k. map (λ a. k ∷ a) (lists_below q n)) js)
     rows [] g all = All-nil (λ a. All (λ k. k < q) a)
     rows (k ∷ js) g all =
         All-append (λ a. All (λ k. k < q) a) (map (λ a. k ∷ a) (lists_below q n)) _

@@ -1,18 +1,20 @@
 -- Laws of Frobenius roots that rest on the parts of polynomials.
 use Rattle.std.proofs.Common.{◌≡◌, ◌↔◌, ℕ, ◌+◌, ◌*◌, ◌^◌, List, [], ◌∷◌, map, flat_map, get_or, All, refl, sym, ap, ◌∙◌, subst}
 use Rattle.std.proofs.lemmas.Nat.{pow-add}
+use Rattle.std.specs.FinMap.{entries, from_entries}
+use Rattle.std.proofs.lemmas.List.Elements.{All-map, All-head, All-tail}
 use Rattle.fj_coeff.specs.Field.{Field, IsField}
 use Rattle.fj_algebra.specs.Power as ring
 use Rattle.fj_algebra.specs.Root as ring_root
 use Rattle.fj_algebra.proofs.Root as ring_laws
-use Rattle.std.specs.FinMap.{entries, from_entries}
-use Rattle.std.proofs.lemmas.List.Elements.{All-map, All-head, All-tail}
+use Rattle.fj_algebra.proofs.Lists.{All-map_back}
 use Rattle.fj_theory.specs.Exponents.{IsExponents, origin}
 use Rattle.fj_theory.specs.Parts.{Part, IsParts, sum_of_parts, part_terms}
 use Rattle.fj_theory.specs.Polynomial.{Polynomial, IsPolynomial, product, power, term}
 use Rattle.fj_theory.specs.Ideal.{ArePolynomials, Member, Inside, multiples}
 use Rattle.fj_theory.specs.FrobeniusPower.{frobenius_power}
 use Rattle.fj_theory.specs.Root.{IsRoot}
+use Rattle.fj_theory.specs.RootLaws.{WithParts}
 use Rattle.fj_theory.proofs.PolynomialRing.{PolynomialOver, polynomial_ring, map_one, map_power, IsPolynomial-power, power_add, power_power, product_comm}
 use Rattle.fj_theory.proofs.PartsList.{IsParts-unique}
 use Rattle.fj_theory.proofs.PartsRing.{polynomial-Parts, map_part, residue_listed}
@@ -20,8 +22,6 @@ use Rattle.fj_theory.proofs.PartsExistence.{parts_of, IsParts-parts_of}
 use Rattle.fj_theory.proofs.Ideal.{ArePolynomials-multiples, multiples-multiples, Member-empty, Member-sum, Member-product, Member-elements, Inside-single, Inside-head}
 use Rattle.fj_theory.proofs.Field.{one_below}
 use Rattle.fj_theory.proofs.Polynomial.{IsPolynomial-term}
-use Rattle.fj_algebra.proofs.Lists.{All-map_back}
-use Rattle.fj_theory.specs.RootLaws.{WithParts}
 use Rattle.fj_theory.proofs.IdealBridge.{over, maps, in_ring, InRing, InRing-maps, InRing-multiples, Member_map, Member_over, Inside_map, Inside_over, ArePolynomials-single, InRing-frobenius_power, Member_polynomial}
 use Rattle.fj_theory.proofs.FrobeniusPower.{ArePolynomials-frobenius_power, Inside-frobenius_power, Member-frobenius_power}
 use Rattle.fj_theory.proofs.Root.{Root_over, Root_map, IsRoot-IsRoot, IsRoot-nil, IsRoot-append}

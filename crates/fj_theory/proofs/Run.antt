@@ -21,7 +21,7 @@ use Rattle.fj_algebra.proofs.Division.{division_remainder, difference_back}
 use Rattle.fj_algebra.proofs.Criteria.{Settled-coprime, Settled-by_division, covers_from_settled}
 use Rattle.fj_algebra.proofs.Pending.{settle_pair, append_pending, none_pending}
 use Rattle.fj_algebra.proofs.Pairs.{contains_map, contains_map_back, contains_filter, filter_contains, contains_cons, contains_head, contains_tail, contains_nil, All-from_elements}
-use Rattle.fj_theory.specs.Exponents.{origin, minus}
+use Rattle.fj_theory.specs.Exponents.{origin, minus, least_common_multiple}
 use Rattle.fj_theory.specs.MonomialOrder.{IsMonomialOrder}
 use Rattle.fj_theory.specs.Polynomial.{Polynomial, IsPolynomial, term, product}
 use Rattle.fj_theory.specs.Ideal.{ArePolynomials, Member, Equal}
@@ -29,7 +29,7 @@ use Rattle.fj_theory.specs.ReducedBasis.{LeadDivides}
 use Rattle.fj_theory.specs.Steps.{StepsTo}
 use Rattle.fj_theory.specs.Lead.{lead_exponents, lead_coefficient, made_monic}
 use Rattle.fj_theory.specs.Division.{polynomials_of, Division, difference, member_at, IsDivision}
-use Rattle.fj_theory.specs.Run.{Run, given, monic_member, first_members, run_start, pairs_with, lead_of, pair_multiple, least_common_multiple, are_coprime, has_coprime_leads, s_polynomial, drop_pair, append_member, treat_pair, IsTurn, dropped, treated, IsRun}
+use Rattle.fj_theory.specs.Run.{Run, given, monic_member, first_members, run_start, pairs_with, lead_of, pair_multiple, are_coprime, has_coprime_leads, s_polynomial, drop_pair, append_member, treat_pair, IsTurn, dropped, treated, IsRun}
 use Rattle.fj_theory.proofs.Exponents.{plus_comm, plus-minus, IsExponents-minus}
 use Rattle.fj_theory.proofs.Field.{Element, element_equal, field_ring, rank_zero, rank_one, rank_mul}
 use Rattle.fj_theory.proofs.PolynomialRing.{PolynomialOver, over_equal, polynomial_ring, map_zero, map_mul}

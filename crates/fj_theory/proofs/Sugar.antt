@@ -13,14 +13,14 @@ use Rattle.fj_algebra.specs.Order as order
 use Rattle.fj_algebra.specs.Sugar as ring_sugar
 use Rattle.fj_algebra.proofs.Polynomial.{Supported-multiple, Supported-subtract}
 use Rattle.fj_algebra.proofs.Pairs.{All-from_elements, contains_filter, contains_map, contains_cons, contains_nil}
-use Rattle.fj_theory.specs.Exponents.{total}
+use Rattle.fj_theory.specs.Exponents.{total, least_common_multiple}
 use Rattle.fj_theory.specs.MonomialOrder.{IsMonomialOrder}
 use Rattle.fj_theory.specs.Polynomial.{Polynomial, IsPolynomial, support, degree}
 use Rattle.fj_theory.specs.Ideal.{ArePolynomials}
 use Rattle.fj_theory.specs.Lead.{lead_exponents, lead_coefficient, made_monic}
 use Rattle.fj_theory.specs.Steps.{StepsTo}
 use Rattle.fj_theory.specs.Division.{Sugared, Division, member_at, IsDivision, DegreeAtMost, AreWithinSugars}
-use Rattle.fj_theory.specs.Run.{Run, given, monic_member, first_members, run_start, lead_of, pair_multiple, least_common_multiple, s_polynomial, drop_pair, append_member, treat_pair, IsTurn, dropped, treated, IsRun}
+use Rattle.fj_theory.specs.Run.{Run, given, monic_member, first_members, run_start, lead_of, pair_multiple, s_polynomial, drop_pair, append_member, treat_pair, IsTurn, dropped, treated, IsRun}
 use Rattle.fj_theory.proofs.Exponents.{total-plus_exponents, total_origin}
 use Rattle.fj_theory.proofs.Field.{Element}
 use Rattle.fj_theory.proofs.PolynomialRing.{PolynomialOver}

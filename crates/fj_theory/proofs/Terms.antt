@@ -1,5 +1,4 @@
 -- Polynomials as falling lists of terms.
-use Rattle.fj_theory.proofs.Polynomial.{coefficient-empty}
 use Rattle.std.proofs.Common.{◌≡◌, ℕ, suc, Bool, true, false, cond, if◌then◌else◌, List, [], ◌∷◌, length, get_or, All, Option, Some, None, unwrap_or, nat_cmp, is_gt, Ordering, Less, Equal, Greater, refl, sym, ap, ◌∙◌, subst, arith, T, ◌<◌, ◌++◌, ◌≢◌}
 use Rattle.std.specs.Cmp.Lexicographic.{slice_cmp}
 use Rattle.std.specs.Ordering.{ordering_reverse}
@@ -14,6 +13,7 @@ use Rattle.fj_coeff.specs.Field.{Field}
 use Rattle.fj_theory.specs.Exponents.{IsExponents}
 use Rattle.fj_theory.specs.MonomialOrder.{compare_by, IsMonomialOrder}
 use Rattle.fj_theory.specs.Polynomial.{Polynomial, IsPolynomial, IsTerm, coefficient, place, sort_falling, terms_falling, IsFalling}
+use Rattle.fj_theory.proofs.Polynomial.{coefficient-empty}
 use Rattle.fj_theory.proofs.MonomialOrder.{compare_by_total, compare_by_exact}
 use Rattle.fj_theory.proofs.FormalSum.{same, same_true, same_itself, same_false}
 use Rattle.fj_theory.proofs.Product.{T_left, T_right, All_above, below_not_same, entries_get}
@@ -29,8 +29,10 @@ pub coefficient-from_entries : (ts : List (List ℕ × ℕ)) (a : List ℕ) → 
 unfolding coefficient
 coefficient-from_entries ts a = ap (λ o. unwrap_or o 0) (get-from_entries nat_list_cmp_total ts a)
 
-pub coefficient-from_entries_cons : (t : List ℕ × ℕ) (ts : List (List ℕ × ℕ)) (a : List ℕ) → coefficient (from_entries (t ∷ ts)) a ≡ cond (same a t.0) t.1 (coefficient (from_entries ts) a)
-coefficient-from_entries_cons t ts a = coefficient-from_entries (t ∷ ts) a ∙ by (same a t.0) ∙ ap (cond (same a t.0) t.1) (sym (coefficient-from_entries ts a))
+pub coefficient-from_entries_cons : (t : List ℕ × ℕ) (ts : List (List ℕ × ℕ)) (a : List ℕ)
+    → coefficient (from_entries (t ∷ ts)) a ≡ cond (same a t.0) t.1 (coefficient (from_entries ts) a)
+coefficient-from_entries_cons t ts a = coefficient-from_entries (t ∷ ts) a ∙ by (same a t.0)
+    ∙ ap (cond (same a t.0) t.1) (sym (coefficient-from_entries ts a))
   where
     by : (s : Bool) → unwrap_or (cond s (Some t.1) (look a ts)) 0 ≡ cond s t.1 (unwrap_or (look a ts) 0)
     by true = refl
@@ -42,7 +44,8 @@ AllExponents ts = All (λ t. IsExponents t.0) ts
 
 pub find_none : (q : List ℕ) (ts : Terms) → All (λ u. same q u.0 ≡ false) ts → look q ts ≡ None
 find_none q [] all = refl
-find_none q (u ∷ ts) all = ap (λ s. cond s (Some u.1) (look q ts)) (All-head (λ v. same q v.0 ≡ false) u ts all) ∙ find_none q ts (All-tail (λ v. same q v.0 ≡ false) u ts all)
+find_none q (u ∷ ts) all = ap (λ s. cond s (Some u.1) (look q ts)) (All-head (λ v. same q v.0 ≡ false) u ts all)
+    ∙ find_none q ts (All-tail (λ v. same q v.0 ≡ false) u ts all)
 
 look_head : (t : List ℕ × ℕ) (ts : Terms) → look t.0 (t ∷ ts) ≡ Some t.1
 look_head t ts = ap (λ s. cond s (Some t.1) (look t.0 ts)) (same_itself t.0)
@@ -70,7 +73,7 @@ module _ (key : List ℕ → List ℕ) where
   IsFalling-from_Falls (t ∷ []) h = tt
   IsFalling-from_Falls (t ∷ u ∷ ts) h = (All-head (λ v. compare_by key t.0 v.0 ≡ Greater) u ts h.0, IsFalling-from_Falls (u ∷ ts) h.1)
 
-  greater_apart : (a b : List ℕ) → compare_by key a b ≡ Greater → same a b ≡ false
+  pub greater_apart : (a b : List ℕ) → compare_by key a b ≡ Greater → same a b ≡ false
   greater_apart a b g = same_false a b (λ e. grind (arith, tied_itself (compare_by_total key) b, subst (λ c. compare_by key c b ≡ Greater) e g))
 
   greater_apart_back : (a b : List ℕ) → compare_by key a b ≡ Greater → same b a ≡ false
@@ -157,10 +160,12 @@ module _ (key : List ℕ → List ℕ) where
   look_sort : (q : List ℕ) (ts : Terms) → Apart ts → look q (sort_falling key ts) ≡ look q ts
   unfolding sort_falling
   look_sort q [] h = refl
-  look_sort q (t ∷ ts) h = look_place q t (sort_falling key ts) (All_sort (λ u. same t.0 u.0 ≡ false) ts h.0) ∙ ap (cond (same q t.0) (Some t.1)) (look_sort q ts h.1)
+  look_sort q (t ∷ ts) h = look_place q t (sort_falling key ts) (All_sort (λ u. same t.0 u.0 ≡ false) ts h.0)
+      ∙ ap (cond (same q t.0) (Some t.1)) (look_sort q ts h.1)
 
 module _ {key : List ℕ → List ℕ} (O : IsMonomialOrder key) where
-  greater_from_not : (a b : List ℕ) → IsExponents a → IsExponents b → same a b ≡ false → is_gt (compare_by key a b) ≡ false → compare_by key b a ≡ Greater
+  greater_from_not : (a b : List ℕ) → IsExponents a → IsExponents b → same a b ≡ false → is_gt (compare_by key a b) ≡ false
+      → compare_by key b a ≡ Greater
   greater_from_not a b A B apart g = by (compare_by key a b) refl g
     where
       by : (r : Ordering) → compare_by key a b ≡ r → is_gt r ≡ false → compare_by key b a ≡ Greater
@@ -173,7 +178,8 @@ module _ {key : List ℕ → List ℕ} (O : IsMonomialOrder key) where
   greater_from Equal h = absurd (true≢false (sym h))
   greater_from Greater h = refl
 
-  Falls_place : (t : List ℕ × ℕ) (us : Terms) → IsExponents t.0 → AllExponents us → All (λ u. same t.0 u.0 ≡ false) us → Falls key us → Falls key (place key t us)
+  Falls_place : (t : List ℕ × ℕ) (us : Terms) → IsExponents t.0 → AllExponents us → All (λ u. same t.0 u.0 ≡ false) us → Falls key us
+      → Falls key (place key t us)
   unfolding place
   Falls_place t [] A all apart h = (All-nil (λ u. compare_by key t.0 u.0 ≡ Greater), tt)
   Falls_place t (u ∷ us) A all apart h =
@@ -197,14 +203,16 @@ module _ {key : List ℕ → List ℕ} (O : IsMonomialOrder key) where
       Falls_place t (sort_falling key ts) (All-head (λ v. IsExponents v.0) t ts all) (All_sort key (λ v. IsExponents v.0) ts later) (All_sort key (λ u. same t.0 u.0 ≡ false) ts h.0) (Falls_sort ts later h.1)
 
   -- A falling list is determined by its coefficients.
-  falling_unique : (ts us : Terms) → AllExponents ts → AllExponents us → Falls key ts → Falls key us → ((q : List ℕ) → look q ts ≡ look q us) → ts ≡ us
+  falling_unique : (ts us : Terms) → AllExponents ts → AllExponents us → Falls key ts → Falls key us → ((q : List ℕ) → look q ts ≡ look q us)
+      → ts ≡ us
   falling_unique [] [] A B g h e = refl
   falling_unique [] (u ∷ us) A B g h e = absurd (none-some u.1 (e u.0 ∙ look_head u us))
   falling_unique (t ∷ ts) [] A B g h e = absurd (none-some t.1 (sym (e t.0) ∙ look_head t ts))
   falling_unique (t ∷ ts) (u ∷ us) A B g h e =
       by (compare_by key t.0 u.0) refl (λ f. falling_unique ts us (All-tail (λ v. IsExponents v.0) t ts A) (All-tail (λ v. IsExponents v.0) u us B) g.1 h.1 f)
     where
-      missed : (t u : List ℕ × ℕ) (ts us : Terms) → compare_by key t.0 u.0 ≡ Greater → All (λ v. compare_by key u.0 v.0 ≡ Greater) us → look t.0 (t ∷ ts) ≡ look t.0 (u ∷ us) → ⊥
+      missed : (t u : List ℕ × ℕ) (ts us : Terms) → compare_by key t.0 u.0 ≡ Greater → All (λ v. compare_by key u.0 v.0 ≡ Greater) us
+          → look t.0 (t ∷ ts) ≡ look t.0 (u ∷ us) → ⊥
       missed t u ts us l above e =
           none-some t.1 (sym (look_beyond key t.0 (u ∷ us)
           (All-cons (λ v. compare_by key t.0 v.0 ≡ Greater) u us l (All-weaker (λ v. compare_by key u.0 v.0 ≡ Greater) (λ v. compare_by key t.0 v.0 ≡ Greater) (λ v m. greater_trans key t.0 u.0 v.0 l m) us above)))
@@ -258,7 +266,8 @@ module _ {key : List ℕ → List ℕ} (O : IsMonomialOrder key) where
     from_entries-terms_falling = same_map nat_list_cmp_total exact_bytes _ f (λ q. get-from_entries nat_list_cmp_total (terms_falling key f) q ∙ find-terms_falling q)
 
   -- A list of terms that falls is what its polynomial has as its terms.
-  pub terms_falling-from_entries : (ts : List (List ℕ × ℕ)) → All (λ t. IsExponents t.0) ts → IsFalling key ts → terms_falling key (from_entries ts) ≡ ts
+  pub terms_falling-from_entries : (ts : List (List ℕ × ℕ)) → All (λ t. IsExponents t.0) ts → IsFalling key ts
+      → terms_falling key (from_entries ts) ≡ ts
   unfolding terms_falling
   terms_falling-from_entries ts all h =
       let f : Polynomial = from_entries ts in
@@ -291,16 +300,33 @@ IsTerm-terms_falling {F} {f} key P = All_sort key (IsTerm F) (entries f) (IsTerm
 pub from_entries-entries : (f : Polynomial) → from_entries (entries f) ≡ f
 from_entries-entries f = same_map nat_list_cmp_total exact_bytes _ f (λ q. get-from_entries nat_list_cmp_total (entries f) q ∙ sym (get-entries f q))
 
+module _ (key : List ℕ → List ℕ) where
+  Falls-last : (ts : Terms) (t : List ℕ × ℕ) → Falls key (ts ++ t ∷ []) → All (λ u. compare_by key u.0 t.0 ≡ Greater) ts
+  Falls-last [] t h = All-nil (λ u. compare_by key u.0 t.0 ≡ Greater)
+  Falls-last (u ∷ ts) t h =
+      All-cons (λ v. compare_by key v.0 t.0 ≡ Greater) u ts (last (λ v. compare_by key u.0 v.0 ≡ Greater) ts t h.0) (Falls-last ts t h.1)
+    where
+      last : (P : List ℕ × ℕ → Type 0) (ts : Terms) (t : List ℕ × ℕ) → All P (ts ++ t ∷ []) → P t
+      last P [] t all = All-head P t [] all
+      last P (u ∷ ts) t all = last P ts t (All-tail P u (ts ++ t ∷ []) all)
+
+  -- The last term of a falling list is below all others.
+  pub IsFalling-last : (ts : List (List ℕ × ℕ)) (t : List ℕ × ℕ) → IsFalling key (ts ++ t ∷ []) → All (λ u. compare_by key u.0 t.0 ≡ Greater) ts
+  IsFalling-last ts t h = Falls-last ts t (Falls-from_IsFalling key (ts ++ t ∷ []) h)
+
 -- A list that has a term is not the zero polynomial.
 pub from_entries_nonzero : (t : List ℕ × ℕ) (ts : List (List ℕ × ℕ)) → 0 < t.1 → from_entries {R = slice_cmp nat_cmp} (t ∷ ts) ≢ empty
 from_entries_nonzero t ts h e =
-    let c = sym (coefficient-from_entries_cons t ts t.0 ∙ ap (λ s. cond s t.1 (coefficient (from_entries ts) t.0)) (same_itself t.0)) ∙ ap (λ f. coefficient f t.0) e ∙ coefficient-empty t.0 in
+    let c = sym (coefficient-from_entries_cons t ts t.0 ∙ ap (λ s. cond s t.1 (coefficient (from_entries ts) t.0)) (same_itself t.0))
+    ∙ ap (λ f. coefficient f t.0) e ∙ coefficient-empty t.0 in
     absurd (omega arith)
 
 -- A term whose exponents are new, at the end of a list.
-pub coefficient-from_entries_push : (ts : List (List ℕ × ℕ)) (t : List ℕ × ℕ) (a : List ℕ) → find (slice_cmp nat_cmp) t.0 ts ≡ None → coefficient (from_entries (ts ++ t ∷ [])) a ≡ cond (same a t.0) t.1 (coefficient (from_entries ts) a)
+pub coefficient-from_entries_push : (ts : List (List ℕ × ℕ)) (t : List ℕ × ℕ) (a : List ℕ) → find (slice_cmp nat_cmp) t.0 ts ≡ None
+    → coefficient (from_entries (ts ++ t ∷ [])) a ≡ cond (same a t.0) t.1 (coefficient (from_entries ts) a)
 coefficient-from_entries_push ts t a new =
-    coefficient-from_entries (ts ++ t ∷ []) a ∙ ap (λ o. unwrap_or o 0) (find-append (slice_cmp nat_cmp) nat_list_cmp_total ts t.0 t.1 a new) ∙ by (same a t.0)
+    coefficient-from_entries (ts ++ t ∷ []) a ∙ ap (λ o. unwrap_or o 0) (find-append (slice_cmp nat_cmp) nat_list_cmp_total ts t.0 t.1 a new)
+    ∙ by (same a t.0)
     ∙ ap (cond (same a t.0) t.1) (sym (coefficient-from_entries ts a))
   where
     by : (s : Bool) → unwrap_or (cond s (Some t.1) (look a ts)) 0 ≡ cond s t.1 (unwrap_or (look a ts) 0)

@@ -1,5 +1,5 @@
 -- Exponent lists of monomials in eight variables.
-use Rattle.std.specs.Prelude.{◌≡◌, ℕ, ◌+◌, ◌*◌, ◌-◌, ◌/◌, ◌%◌, ◌&&◌, Bool, true, false, nat_le, List, [], ◌∷◌, length, map, sum}
+use Rattle.std.specs.Prelude.{◌≡◌, ℕ, ◌+◌, ◌*◌, ◌-◌, ◌/◌, ◌%◌, ◌&&◌, Bool, true, false, nat_le, List, [], ◌∷◌, length, map, max, sum}
 
 -- An exponent list: one number for each of the eight variables.
 pub record IsExponents (a : List ℕ) : Type 0 where
@@ -34,6 +34,12 @@ unfoldable pub minus : List ℕ → List ℕ → List ℕ
 minus [] b = []
 minus (x ∷ a) [] = []
 minus (x ∷ a) (y ∷ b) = (x - y) ∷ minus a b
+
+-- The exponents of the least common multiple: in each place the greater one.
+unfoldable pub least_common_multiple : List ℕ → List ℕ → List ℕ
+least_common_multiple [] b = []
+least_common_multiple (x ∷ a) [] = []
+least_common_multiple (x ∷ a) (y ∷ b) = max x y ∷ least_common_multiple a b
 
 -- The quotient and the residue of a monomial by q-th powers: a = q * quotient + residue, the residue's entries below q.
 unfoldable pub quotient_by : ℕ → List ℕ → List ℕ

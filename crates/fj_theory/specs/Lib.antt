@@ -2,6 +2,9 @@ pub mod Exponents
 pub mod MonomialOrder
 pub mod Polynomial
 pub mod Parts
+pub mod Fraction
+pub mod Digits
+pub mod Candidates
 pub mod Ideal
 pub mod FrobeniusPower
 pub mod Root
@@ -17,3 +20,6 @@ pub mod Run
 pub mod Elimination
 pub mod Criterion
 pub mod BasisLaws
+pub mod PolynomialLaws
+pub mod Plain
+pub mod Certificate

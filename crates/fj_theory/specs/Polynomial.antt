@@ -19,6 +19,11 @@ pub record IsPolynomial (F : Field) (f : Polynomial) : Type 0 where
   pub nonzero : (a : List ℕ) (c : ℕ) → get f a ≡ Some c → 0 < c
   pub below : (a : List ℕ) (c : ℕ) → get f a ≡ Some c → c < F.size
 
+-- A polynomial over the field: the map with what makes it a polynomial.
+pub record PolynomialOver (F : Field) : Type 0 where
+  pub map : Polynomial
+  pub is_polynomial : IsPolynomial F map
+
 -- A term of a polynomial: eight exponents, and a coefficient of the field that is not zero.
 pub record IsTerm (F : Field) (t : List ℕ × ℕ) : Type 0 where
   pub exponents : IsExponents t.0

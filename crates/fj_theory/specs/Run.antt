@@ -7,18 +7,12 @@ use Rattle.std.specs.Cmp.Lexicographic.{slice_cmp}
 use Rattle.std.specs.declared.cmp.Ordering.TheVariants.{Greater}
 use Rattle.std.specs.FinMap.{len}
 use Rattle.fj_coeff.specs.Field.{Field}
-use Rattle.fj_theory.specs.Exponents.{total, divides, minus}
+use Rattle.fj_theory.specs.Exponents.{total, divides, minus, least_common_multiple}
 use Rattle.fj_theory.specs.MonomialOrder.{compare_by}
 use Rattle.fj_theory.specs.Polynomial.{Polynomial, term, product, degree}
 use Rattle.fj_theory.specs.Lead.{lead_exponents, made_monic}
 use Rattle.fj_theory.specs.Steps.{StepsTo}
 use Rattle.fj_theory.specs.Division.{degree_limit, difference, Sugared, Division, member_at, IsLowDivision, IsHighDivision}
-
--- The exponents of the least common multiple of two monomials.
-unfoldable pub least_common_multiple : List ℕ → List ℕ → List ℕ
-least_common_multiple [] b = []
-least_common_multiple (x ∷ a) [] = []
-least_common_multiple (x ∷ a) (y ∷ b) = max x y ∷ least_common_multiple a b
 
 -- The two monomials have no variable in common.
 unfoldable pub are_coprime : List ℕ → List ℕ → Bool

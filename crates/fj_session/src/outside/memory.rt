@@ -84,7 +84,8 @@ impl MemorySource {
         fails: &[u64],
     ) -> Result<MemorySource, AllocError>
         requires { 1 ≤ step }
-        ensures { IfOk result (λ s. s ≡ record { left = bytes.now; step = step; schedule = first_schedule fails.now }) }
+        ensures { IfOk result (λ s. s
+            ≡ record { left = bytes.now; step = step; schedule = first_schedule fails.now }) }
     {
         Ok(MemorySource {
             bytes: Vec::from_slice(alloc, bytes)?,
@@ -149,7 +150,8 @@ impl Model for MemorySink {
 impl MemorySink {
     /// A sink with room for so many bytes, which it takes first.
     pub fn new(alloc: Global, room: usize, fails: &[u64]) -> Result<MemorySink, AllocError>
-        ensures { IfOk result (λ s. s ≡ record { taken = []; room = room; schedule = first_schedule fails.now }) }
+        ensures { IfOk result (λ s. s
+            ≡ record { taken = []; room = room; schedule = first_schedule fails.now }) }
     {
         Ok(MemorySink {
             taken: Vec::with_capacity(alloc, room)?,

@@ -1,4 +1,4 @@
-use Rattle.std.proofs.Common.{◌≡◌, sym, ◌∙◌}
+use Rattle.std.proofs.Common.{sym, ◌∙◌}
 use Rattle.fj_mono.proofs.Compare.{compare_by-lex}
 use Rattle.fj_mono.proofs.order.LexOrder.cmp.Goals as goal
 

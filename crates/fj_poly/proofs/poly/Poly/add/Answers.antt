@@ -1,11 +1,12 @@
-use Rattle.std.proofs.Common.{◌≡◌, ◌<◌, ℕ, List, [], ◌∷◌, ◌++◌, refl, sym, ap, ◌∙◌, subst, arith, inl, inr, ◌⊎◌}
+use Rattle.std.proofs.Common.{◌≡◌, ◌<◌, ℕ, List, [], sym, ap, ◌∙◌, subst, inl, inr, ◌⊎◌}
 use Rattle.std.proofs.lemmas.List.{map-append, map_push, nil_from_length}
-use Rattle.fj_theory.specs.Polynomial.{IsPolynomial, sum}
+use Rattle.fj_theory.specs.Polynomial.{IsPolynomial}
 use Rattle.fj_theory.proofs.MonomialOrder.{compare_by_exact}
 use Rattle.fj_poly.specs.Terms.{entry, entries}
 use Rattle.fj_poly.proofs.Coefficients.{positive_rank, zero_rank}
 use Rattle.fj_poly.proofs.Falling.{above_from_below}
 use Rattle.fj_poly.proofs.Polynomials.{IsPolynomial-polynomial_of}
+use Rattle.fj_poly.proofs.View.{polynomial_seen}
 use Rattle.fj_poly.proofs.Merge.{merges-start, merges-swap, merges-left, merges-both, merges-neither, merges-ended, Merged}
 use Rattle.fj_poly.proofs.poly.Poly.add.Given as given
 use Rattle.fj_poly.proofs.poly.Poly.add.Goals as goal
@@ -48,7 +49,7 @@ merge-preserved-in_ok-push-in-Equal g c =
     let m = rw (left, right) at c.merge.invariant in
     let same : x.0 ≡ y.0 = compare_by_exact g.met.O.Order.monomial_order (record { eight = m.left_terms.0.0 }) (record { eight = m.right_terms.0.0 }) (sym c.cmp.ensures ∙ c.in-Equal.is) in
     let positive : 0 < g.K.Coeff.rank c.add-coefficient.result =
-        positive_rank _ _ _ (g.met.K.Coeff.eq_is_rank c.add-coefficient.result c.zero.result) c.zero.ensures (sym c.ne.ensures ∙ c.if-ne.true) in
+    positive_rank _ _ _ (g.met.K.Coeff.eq_is_rank c.add-coefficient.result c.zero.result) c.zero.ensures (sym c.ne.ensures ∙ c.if-ne.true) in
     rw (c.in_ok-push-in-Equal.ensures.items, map_push, c.add-coefficient.ensures)
     (merges-both field x y same (rw c.add-coefficient.ensures at positive) m)
 
@@ -62,7 +63,7 @@ merge-preserved g c =
     let m = rw (left, right) at c.merge.invariant in
     let same : x.0 ≡ y.0 = compare_by_exact g.met.O.Order.monomial_order (record { eight = m.left_terms.0.0 }) (record { eight = m.right_terms.0.0 }) (sym c.cmp.ensures ∙ c.in-Equal.is) in
     let none : g.K.Coeff.rank c.add-coefficient.result ≡ 0 =
-        zero_rank _ _ _ (g.met.K.Coeff.eq_is_rank c.add-coefficient.result c.zero.result) c.zero.ensures (sym c.ne.ensures ∙ c.if-ne.false) in
+    zero_rank _ _ _ (g.met.K.Coeff.eq_is_rank c.add-coefficient.result c.zero.result) c.zero.ensures (sym c.ne.ensures ∙ c.if-ne.false) in
     merges-neither field x y same (rw c.add-coefficient.ensures at none) m
 
 merged : (g : given.Over) (c : goal.In_ok-extend_from_slice-2 g) → Merged g.K.Coeff.field g.O.Order.key (entries g.K.Coeff.rank c.extend_from_slice-2.new.self.items) c.args.self.now c.args.o.now
@@ -70,15 +71,24 @@ merged g c =
     let self_is : IsPolynomial g.K.Coeff.field c.args.self.now = subst (IsPolynomial g.K.Coeff.field) c.self.view_is (IsPolynomial-polynomial_of _ c.self.invariant.1) in
     let o_is : IsPolynomial g.K.Coeff.field c.args.o.now = subst (IsPolynomial g.K.Coeff.field) c.o.view_is (IsPolynomial-polynomial_of _ c.o.invariant.1) in
     let used : (entries g.K.Coeff.rank c.merge.left.now ≡ []) ⊎ (entries g.K.Coeff.rank c.merge.right.now ≡ []) =
-        elim c.match-split_first.branch [
-          | in_default w ↦ inr (ap (entries g.K.Coeff.rank) (nil_from_length _ w.in_default.ensures'.cases))
-          | in_default-2 w ↦ inl (ap (entries g.K.Coeff.rank) (nil_from_length _ w.in_default.ensures.cases))
-        ] in
+    elim c.match-split_first.branch [
+      | in_default w ↦ inr (ap (entries g.K.Coeff.rank) (nil_from_length _ w.in_default.ensures'.cases))
+      | in_default-2 w ↦ inl (ap (entries g.K.Coeff.rank) (nil_from_length _ w.in_default.ensures.cases))
+    ] in
     rw (c.in_ok-extend_from_slice-2.ensures.items, c.in_ok-extend_from_slice.ensures.items, map-append, map-append)
     (merges-ended g.met.K.Coeff.lawful self_is o_is c.merge.invariant used)
 
 pub invariant_of-result : goal.invariant_of-result
 invariant_of-result g c = let m = merged g c in (m.falls, m.terms)
 
-pub returns : goal.returns
-returns g c = (merged g c).total
+pub returns-clause-value : goal.returns-clause-value
+returns-clause-value g c = (merged g c).total
+
+pub returns-clause-first : goal.returns-clause-first
+returns-clause-first g c = polynomial_seen _ c.self.invariant.1 c.self.view_is
+
+pub returns-clause-second : goal.returns-clause-second
+returns-clause-second g c = polynomial_seen _ c.o.invariant.1 c.o.view_is
+
+pub returns-clause-polynomial : goal.returns-clause-polynomial
+returns-clause-polynomial g c = IsPolynomial-polynomial_of _ (merged g c).terms

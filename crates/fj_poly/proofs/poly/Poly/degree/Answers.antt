@@ -1,4 +1,17 @@
+use Rattle.std.proofs.Common.{◌≡◌, map, max, sym, ap, ◌∙◌}
+use Rattle.fj_poly.specs.Terms.{entry}
+use Rattle.fj_poly.proofs.View.{degree-polynomial_of}
+use Rattle.std.proofs.Common.{take, sum, max}
+use Rattle.std.specs.List.{reduce}
+use Rattle.std.proofs.lemmas.List.{take_all}
+use Rattle.std.proofs.lemmas.Simd.{map-map}
+use Rattle.fj_theory.specs.Exponents.{total}
 use Rattle.fj_poly.proofs.poly.Poly.degree.Goals as goal
 
 pub returns : goal.returns
-returns g c = let e = c.max.ensures in let d = c.map.ensures in let b = c.iter.ensures in ?
+returns g c =
+    let all : take c.loop-t.t-index c.as_slice-t-items.result.now ≡ c.self.inside.terms.items = take_all _ _ c.loop-t-test.false ∙ c.as_slice-t-items.ensures.value in
+    rw (← c.self.view_is)
+    (c.loop-t.invariant ∙ ap (λ ts. reduce max (map (λ t. sum t.monomial.exponents) ts)) all
+    ∙ ap (reduce max) (sym (map-map (λ t. total t.0) (entry g.K.Coeff.rank) c.self.inside.terms.items))
+    ∙ sym (degree-polynomial_of g.met.O.Order.monomial_order g.K.Coeff.field _ c.self.invariant.0 c.self.invariant.1))

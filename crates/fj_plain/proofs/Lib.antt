@@ -1,0 +1,6 @@
+pub mod TalliedLemmas
+pub mod Raised
+pub mod NonzeroEntries
+pub mod Entries
+pub mod Each
+pub mod Powers

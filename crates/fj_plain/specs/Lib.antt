@@ -1,0 +1,5 @@
+pub mod OrderRow
+pub mod Terms
+pub mod PlainCode
+pub mod Tallied
+pub mod Holds

@@ -1,0 +1,85 @@
+ghost use Rattle.std.specs.Prelude.{◌≡◌, ◌+◌, ◌<◌, ◌≤◌, ◌^◌, Contains, IfOk, OnOk};
+ghost use Rattle.fj_coeff.specs.Field.{primes};
+ghost use Rattle.fj_theory.specs.Candidates.{AreCandidates};
+ghost use Rattle.fj_ratio.specs.Multiples.{AddsMultiples};
+
+use crate::ratio::Ratio;
+use num_traits::checked_pow;
+use std::alloc::{AllocError, Global};
+
+/// The candidates C_e in base p: the distinct fractions m/(p^c*(p^b - 1)) of (0, 1] with b >= 1 and b + c <= e, rising.
+pub fn candidates(alloc: Global, p: u64, e: u32) -> Result<Vec<Ratio>, AllocError>
+    requires prime { Contains primes p }
+    requires positive { 1 ≤ e }
+    requires small { p ^ e ≤ 65536 }
+    ensures { IfOk result (λ v. AreCandidates p e v.items) }
+{
+    // Each candidate is a fraction m/(p^e - p^c) with c below e.
+    let Some(whole) = checked_pow(p, e as usize) else {
+        unreachable!()
+    };
+    let mut list = Vec::new(alloc);
+    let mut power = 1;
+    'rows: for _ in 0..e {
+        push_multiples(&mut list, whole - power)?;
+        power *= p;
+    }
+    list.sort_unstable();
+    list.dedup();
+    Ok(list)
+}
+
+// Adds m/d for each m from 1 to d.
+fn push_multiples(list: &mut Vec<Ratio>, d: u64) -> Result<(), AllocError>
+    requires positive { 1 ≤ d }
+    requires narrow { d < 2 ^ 16 }
+    ensures { OnOk result (AddsMultiples d (d + 1) list.old.items list.new.items) }
+{
+    'multiples: for m in 1..d + 1 {
+        list.push(Ratio::of(m as u32, d as u16))?;
+    }
+    Ok(())
+}
+
+#[cfg(test)]
+mod tests {
+    use super::*;
+    use std::process::Abort;
+    use std::test::Fail;
+
+    fn lists(
+        rt: &(impl Abort + AllocGlobal),
+        p: u64,
+        e: u32,
+        members: &[(u64, u64)],
+    ) -> Result<(), AllocError>
+        requires prime { Contains primes p }
+        requires positive { 1 ≤ e }
+        requires small { p ^ e ≤ 65536 }
+    {
+        let list = candidates(rt.alloc(), p, e)?;
+        assert_eq!(rt; list.len(), members.len());
+        for (t, (num, den)) in list.iter().zip(members) {
+            assert_eq!(rt; (t.num(), t.den()), (*num, *den));
+        }
+        Ok(())
+    }
+
+    #[test]
+    fn small_lists(rt: HostRuntime) -> Result<(), Fail> {
+        lists(&rt, 2, 1, &[(1, 1)])?;
+        lists(&rt, 2, 2, &[(1, 3), (1, 2), (2, 3), (1, 1)])?;
+        lists(&rt, 3, 1, &[(1, 2), (1, 1)])?;
+        lists(&rt, 5, 1, &[(1, 4), (1, 2), (3, 4), (1, 1)])?;
+        lists(&rt, 7, 1, &[(1, 6), (1, 3), (1, 2), (2, 3), (5, 6), (1, 1)])?;
+        Ok(())
+    }
+
+    // The longest list.
+    #[test]
+    fn longest_list(rt: HostRuntime) -> Result<(), Fail> {
+        let list = candidates(rt.alloc(), 2, 16)?;
+        assert_eq!(rt; list.len(), 925_468);
+        Ok(())
+    }
+}

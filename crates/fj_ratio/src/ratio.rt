@@ -1,0 +1,245 @@
+ghost use Rattle.std.specs.Prelude.{◌≡◌, ◌+◌, ◌*◌, ◌<◌, ◌≤◌, ◌^◌, ◌↔◌, ℕ, IfOk, IsErrOf};
+ghost use Rattle.std.specs.Int.{IsGcd};
+ghost use Rattle.fj_theory.specs.Fraction.{IsLowest, ceil_times, compare};
+ghost use Rattle.fj_ratio.specs.Lowest.{IsLowestForm, IsTooWide};
+
+use std::cmp::Ordering;
+use std::marker::Model;
+use thiserror::Error;
+
+/// Why two numbers are no `Ratio`.
+#[derive(Clone, Copy, Debug, PartialEq, Eq, Error)]
+pub enum RatioFault {
+    #[error("the denominator is zero")]
+    Zero,
+    #[error("in lowest terms the numerator or the denominator is too large")]
+    TooWide,
+}
+
+/// A nonnegative fraction in lowest terms, with a numerator below 2^32 and a denominator below 2^16.
+#[derive(Clone, Copy, Debug)]
+pub struct Ratio {
+    num: u32,
+    den: u16,
+    ghost positive: { 0 < den },
+}
+
+impl Model for Ratio {
+    ghost use Rattle.std.specs.Int.{IsGcd};
+    ghost use Rattle.fj_theory.specs.Fraction.{Fraction};
+    ghost use Rattle.fj_ratio.specs.FractionCode.{fraction_code};
+
+    ghost Value = { Fraction };
+
+    ghost coded = { fraction_code };
+
+    ghost view = { λ t. record { numerator = t.num; denominator = t.den; positive = t.positive } };
+
+    ghost invariant = { λ t. IsGcd t.num t.den 1 };
+
+    ghost inverse = { λ v. record { num = v.numerator; den = v.denominator; positive = v.positive } };
+}
+
+impl Ratio {
+    /// The fraction num/den. `Zero` exactly where the denominator is 0; else `TooWide` exactly where in lowest terms the
+    /// denominator is above 65,535 or the numerator above 2^32 - 1.
+    pub fn new(num: u64, den: u64) -> Result<Ratio, RatioFault>
+        ensures value { IfOk result (IsLowestForm num den) }
+        ensures zero { IsErrOf result RatioFault.Zero ↔ (den ≡ 0) }
+        ensures wide { IsErrOf result RatioFault.TooWide ↔ IsTooWide num den }
+    {
+        if den == 0 {
+            return Err(RatioFault::Zero);
+        }
+        let (num, den) = lowest_terms(num, den);
+        if num > u64::from(u32::MAX) || den > u64::from(u16::MAX) {
+            return Err(RatioFault::TooWide);
+        }
+        Ok(Ratio {
+            num: num as u32,
+            den: den as u16,
+        })
+    }
+
+    /// The fraction num/den.
+    pub(crate) fn of(num: u32, den: u16) -> Ratio
+        requires { 0 < den }
+        ensures { IsLowestForm num den result }
+    {
+        let (num, den) = lowest_terms(u64::from(num), u64::from(den));
+        Ratio {
+            num: num as u32,
+            den: den as u16,
+        }
+    }
+
+    /// The numerator in lowest terms.
+    pub fn num(&self) -> u64
+        ensures value { result ≡ self.now.numerator }
+        ensures narrow { result < 2 ^ 32 }
+    {
+        u64::from(self.num)
+    }
+
+    /// The denominator in lowest terms.
+    pub fn den(&self) -> u64
+        ensures value { result ≡ self.now.denominator }
+        ensures narrow { result < 2 ^ 16 }
+        ensures lowest { IsLowest self.now }
+    {
+        u64::from(self.den)
+    }
+
+    /// The least whole number that isn't below q times the fraction.
+    #[tactic(auto, unfolding(fj_theory::specs::Fraction::ceil_times))]
+    pub fn ceil_times(&self, q: u64) -> u128
+        ensures { result ≡ ceil_times self.now q }
+    {
+        (u128::from(self.num) * u128::from(q)).div_ceil(u128::from(self.den))
+    }
+}
+
+// The greatest common divisor.
+fn gcd(mut a: u64, mut b: u64) -> u64
+    ensures { IsGcd a b result }
+{
+    while b != 0 {
+        let rest = a % b;
+        a = b;
+        b = rest;
+    }
+    a
+}
+
+// Numerator and denominator of num/den in lowest terms.
+fn lowest_terms(num: u64, den: u64) -> (u64, u64)
+    requires { 0 < den }
+    ensures positive { 0 < result.1 }
+    ensures lowest { IsGcd result.0 result.1 1 }
+    ensures value { result.0 * den ≡ num * result.1 }
+    ensures num_below { result.0 ≤ num }
+    ensures den_below { result.1 ≤ den }
+{
+    let divisor = gcd(num, den);
+    (num / divisor, den / divisor)
+}
+
+impl PartialEq for Ratio {
+    ghost use Rattle.std.specs.Ordering.{eq_by_cmp};
+    ghost use Rattle.std.specs.Cmp.{eq_by_cmp_equiv, partial_equiv_from_equiv};
+    ghost use Rattle.fj_theory.specs.Fraction.{compare};
+    ghost use Rattle.fj_ratio.specs.RatioLaws.{compare-IsTotalOrder};
+
+    ghost eq = { eq_by_cmp compare };
+
+    ghost laws = { partial_equiv_from_equiv (eq_by_cmp_equiv compare-IsTotalOrder) };
+
+    fn eq(&self, other: &Ratio) -> bool {
+        self.cmp(other) == Ordering::Equal
+    }
+}
+
+impl Eq for Ratio {
+    ghost use Rattle.std.specs.Cmp.{eq_by_cmp_equiv};
+    ghost use Rattle.fj_ratio.specs.RatioLaws.{compare-IsTotalOrder};
+
+    ghost laws = { eq_by_cmp_equiv compare-IsTotalOrder };
+}
+
+impl PartialOrd for Ratio {
+    ghost use Rattle.std.specs.Ordering.{as_partial_cmp};
+    ghost use Rattle.std.specs.Cmp.{partial_order_from_total};
+    ghost use Rattle.fj_theory.specs.Fraction.{compare};
+    ghost use Rattle.fj_ratio.specs.RatioLaws.{compare-IsTotalOrder};
+
+    ghost partial_cmp = { as_partial_cmp compare };
+
+    ghost laws = { partial_order_from_total compare-IsTotalOrder };
+
+    fn partial_cmp(&self, other: &Ratio) -> Option<Ordering> {
+        Some(self.cmp(other))
+    }
+}
+
+impl Ord for Ratio {
+    ghost use Rattle.std.specs.Prelude.{refl};
+    ghost use Rattle.fj_theory.specs.Fraction.{compare};
+    ghost use Rattle.fj_ratio.specs.RatioLaws.{compare-IsTotalOrder};
+
+    ghost cmp = { compare };
+
+    ghost total = { compare-IsTotalOrder };
+
+    ghost matches_partial_cmp = { λ _ _. refl };
+
+    ghost matches_eq = { λ _ _. refl };
+
+    fn cmp(&self, other: &Ratio) -> Ordering {
+        (u64::from(self.num) * u64::from(other.den)).cmp(
+            &(u64::from(other.num) * u64::from(self.den)),
+        )
+    }
+}
+
+#[cfg(test)]
+mod tests {
+    use super::*;
+    use std::process::Abort;
+
+    // Each row: a numerator and a denominator, and those in lowest terms.
+    #[test]
+    fn lowest_forms(rt: HostRuntime) {
+        let rows = [
+            (6, 8, 3, 4),
+            (2, 131_070, 1, 65_535),
+            (0, 5, 0, 1),
+            (8, 1, 8, 1),
+            (u64::MAX, u64::MAX, 1, 1),
+            (4_294_967_295, 1, 4_294_967_295, 1),
+        ];
+        for (num, den, lowest_num, lowest_den) in rows {
+            let t = Ratio::new(num, den).expect(&rt, "a narrow fraction");
+            assert_eq!(rt; (t.num(), t.den()), (lowest_num, lowest_den));
+        }
+    }
+
+    #[test]
+    fn faults(rt: HostRuntime) {
+        assert!(rt; Ratio::new(1, 0).is_err_and(|fault| fault == RatioFault::Zero));
+        assert!(rt; Ratio::new(0, 0).is_err_and(|fault| fault == RatioFault::Zero));
+        for (num, den) in [(1, 65_536), (4_294_967_296, 1), (u64::MAX, 2)] {
+            assert!(rt; Ratio::new(num, den).is_err_and(|fault| fault == RatioFault::TooWide));
+        }
+    }
+
+    fn ratio(rt: &impl Abort, num: u64, den: u64) -> Ratio {
+        Ratio::new(num, den).expect(rt, "a narrow fraction")
+    }
+
+    // Each row: a fraction, a whole number q, and the least whole number not below their product.
+    #[test]
+    fn ceilings(rt: HostRuntime) {
+        for (num, den, q, ceiling) in [
+            (4, 5, 25, 20),
+            (4, 5, 24, 20),
+            (4, 5, 26, 21),
+            (1, 3, 0, 0),
+            (0, 1, 7, 0),
+        ] {
+            assert_eq!(rt; ratio(&rt, num, den).ceil_times(q), ceiling);
+        }
+        let product = u128::from(u32::MAX) * u128::from(u64::MAX);
+        assert_eq!(rt; ratio(&rt, 4_294_967_295, 1).ceil_times(u64::MAX), product);
+    }
+
+    #[test]
+    fn order_by_value(rt: HostRuntime) {
+        let third = ratio(&rt, 1, 3);
+        let half = ratio(&rt, 1, 2);
+        assert!(rt; third < half);
+        assert!(rt; half < ratio(&rt, 2, 3));
+        assert!(rt; half == ratio(&rt, 4, 8));
+        assert!(rt; half != third);
+        assert!(rt; third.cmp(&ratio(&rt, 2, 6)) == Ordering::Equal);
+    }
+}

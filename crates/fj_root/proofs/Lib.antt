@@ -1,0 +1,4 @@
+pub mod Groups
+pub mod Powers
+pub mod Gather
+pub mod Gathered
