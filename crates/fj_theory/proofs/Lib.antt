@@ -51,3 +51,4 @@ pub mod TermLists
 pub mod Plain
 pub mod PlainProduct
 pub mod Certificate
+pub mod Rows

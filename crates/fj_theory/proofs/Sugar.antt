@@ -1,10 +1,8 @@
 -- The sugars of a run bound the degrees of all that it makes.
-use Rattle.std.proofs.Common.{fold, ◌⊎◌, inl, inr, ◌≡◌, ◌≢◌, ℕ, ◌+◌, ◌-◌, ◌≤◌, ◌<◌, ◌==◌, max, Bool, true, false, cond, List, [], ◌∷◌, length, map, filter, not, nat_cmp, true≢false, All, Contains, unwrap_or, refl, sym, ap, ap₂, ◌∙◌, subst, arith}
-use Rattle.std.specs.List.{reduce}
+use Rattle.std.proofs.Common.{◌≡◌, ◌≢◌, ℕ, ◌+◌, ◌-◌, ◌≤◌, ◌<◌, ◌==◌, Bool, true, false, cond, List, [], ◌∷◌, length, filter, not, nat_cmp, true≢false, All, Contains, unwrap_or, refl, sym, ap, ap₂, ◌∙◌, subst, arith, Option, Some, None}
 use Rattle.std.specs.Cmp.Lexicographic.{slice_cmp}
-use Rattle.std.proofs.lemmas.Map.Made.{is_member-Decides}
-use Rattle.fj_theory.proofs.FormalSum.{same-Decides}
-use Rattle.fj_theory.proofs.Polynomial.{support_listed}
+use Rattle.fj_theory.proofs.Polynomial.{coefficient-empty}
+use Rattle.fj_theory.proofs.Degree.{degree_bounds, empty_from_degree}
 use Rattle.std.specs.FinMap.{empty, len, len-empty}
 use Rattle.std.proofs.lemmas.List.Elements.{All-nil, All-cons, All-append, All-map, All-contains}
 use Rattle.fj_coeff.specs.Field.{Field, IsField}
@@ -12,14 +10,15 @@ use Rattle.fj_algebra.specs.Polynomial as abstract
 use Rattle.fj_algebra.specs.Order as order
 use Rattle.fj_algebra.specs.Sugar as ring_sugar
 use Rattle.fj_algebra.proofs.Polynomial.{Supported-multiple, Supported-subtract}
-use Rattle.fj_algebra.proofs.Pairs.{All-from_elements, contains_filter, contains_map, contains_cons, contains_nil}
+use Rattle.fj_algebra.proofs.Lists.{All-map_back}
+use Rattle.fj_algebra.proofs.Pairs.{All-from_elements, contains_filter}
 use Rattle.fj_theory.specs.Exponents.{total, least_common_multiple}
 use Rattle.fj_theory.specs.MonomialOrder.{IsMonomialOrder}
-use Rattle.fj_theory.specs.Polynomial.{Polynomial, IsPolynomial, support, degree}
+use Rattle.fj_theory.specs.Polynomial.{Polynomial, IsPolynomial, degree, coefficient}
 use Rattle.fj_theory.specs.Ideal.{ArePolynomials}
 use Rattle.fj_theory.specs.Lead.{lead_exponents, lead_coefficient, made_monic}
 use Rattle.fj_theory.specs.Steps.{StepsTo}
-use Rattle.fj_theory.specs.Division.{Sugared, Division, member_at, IsDivision, DegreeAtMost, AreWithinSugars}
+use Rattle.fj_theory.specs.Division.{Sugared, Division, member_at, division_start, IsDivisionStep, IsDivision, DegreeAtMost, AreWithinSugars, polynomials_of, IsWithinSugar}
 use Rattle.fj_theory.specs.Run.{Run, given, monic_member, first_members, run_start, lead_of, pair_multiple, s_polynomial, drop_pair, append_member, treat_pair, IsTurn, dropped, treated, IsRun}
 use Rattle.fj_theory.proofs.Exponents.{total-plus_exponents, total_origin}
 use Rattle.fj_theory.proofs.Field.{Element}
@@ -33,26 +32,16 @@ use Rattle.fj_theory.proofs.Steps.{StepsTo-keeps}
 use Rattle.fj_theory.proofs.Division.{IsWithinSugar-StepsTo, IsDivision-remainder_polynomial, same_length}
 use Rattle.fj_theory.proofs.Run.{IsKept, IsKept-IsTurn, start_kept, monic_over, monic_over-map, member, nonzero, in_members, member_is, lead_is, lead, factor, factor_times, s_over, s_over-map, s_polynomial-IsPolynomial}
 
--- The greatest number of a list.
-fold_max : (x n : ℕ) (xs : List ℕ) → (n ≤ x) ⊎ Contains xs n → n ≤ fold max x xs
-fold_max x n [] (inl h) = h
-fold_max x n [] (inr c) = absurd (contains_nil n c)
-fold_max x n (y ∷ xs) (inl h) = fold_max (max x y) n xs (inl (omega (arith, h)))
-fold_max x n (y ∷ xs) (inr c) = elim (contains_cons y xs n c) [ inl e ↦ fold_max (max x y) n xs (inl (omega (arith, e))) | inr d ↦ fold_max (max x y) n xs (inr d) ]
-
-reduce_max : (n : ℕ) (xs : List ℕ) → Contains xs n → n ≤ unwrap_or (reduce max xs) 0
-reduce_max n [] c = absurd (contains_nil n c)
-reduce_max n (x ∷ xs) c = elim (contains_cons x xs n c) [ inl e ↦ fold_max x n xs (inl (omega (arith, e))) | inr d ↦ fold_max x n xs (inr d) ]
-
--- A polynomial that is handed in is within its sugar.
-pub given-DegreeAtMost : (f : Polynomial) → DegreeAtMost (given f).sugar f
-unfolding given degree
-given-DegreeAtMost f = record {
-  within = λ a p. reduce_max (total a) (map total (support f))
-      (contains_map total (support f) a ((is_member-Decides same-Decides (support f) a).0 (support_listed f a p)));
-}
-
 module _ {F : Field} (L : IsField F) where
+  -- A polynomial that is handed in is within its sugar.
+  pub given-DegreeAtMost : {f : Polynomial} → IsPolynomial F f → DegreeAtMost (given f).sugar f
+  unfolding given
+  given-DegreeAtMost {f} A = go (degree f) refl
+    where
+      go : (o : Option ℕ) → degree f ≡ o → DegreeAtMost (unwrap_or (degree f) 0) f
+      go (Some n) e = record { within = λ a p. subst (λ o. total a ≤ unwrap_or o 0) (sym e) (degree_bounds L A e a (exponents_of L (over A) a p) p) }
+      go None e = record { within = λ a p. let z = ap (λ g. coefficient g a) (empty_from_degree L A e) ∙ coefficient-empty a in absurd (omega (arith, z, p)) }
+
   degree_of : Exponents → ℕ
   degree_of a = total a.list
 
@@ -182,7 +171,7 @@ module _ {F : Field} (L : IsField F) where
         (All-from_elements (λ f. DegreeAtMost (given f).sugar (made_monic F key f)) (filter (λ f. not (len f == 0)) (maps X.list))
         (λ f c. let both = contains_filter (λ f. not (len f == 0)) (maps X.list) f c in
         DegreeAtMost-made_monic (All-contains (IsPolynomial F) (maps X.list) f (ArePolynomials-maps X.list).each both.0) (given f).sugar
-        (λ z. true≢false (sym both.1 ∙ ap (λ m. not (m == 0)) (ap len z ∙ len-empty (slice_cmp nat_cmp) ℕ))) (given-DegreeAtMost f)))
+        (λ z. true≢false (sym both.1 ∙ ap (λ m. not (m == 0)) (ap len z ∙ len-empty (slice_cmp nat_cmp) ℕ))) (given-DegreeAtMost (All-contains (IsPolynomial F) (maps X.list) f (ArePolynomials-maps X.list).each both.0))))
 
     IsWithinKept : List (PolynomialOver F) → Run → Type 0
     IsWithinKept M s = IsKept K L M s × AreWithinSugars s.members
@@ -194,3 +183,13 @@ module _ {F : Field} (L : IsField F) where
         let X = in_ring A in
         (StepsTo-keeps (IsTurn F key) (IsWithinKept X.list) (λ s t h both. (IsKept-IsTurn K L X.list s t h both.0, turn_within X.list s both.0 both.1 t h)) r.states (run_start F key (maps X.list)) s
         (subst (λ m. StepsTo (IsTurn F key) (run_start F key m) r.states s) (sym X.are) r.steps) (start_kept K L X.list, first_within X)).1
+
+-- The sugar bounds each state of a division.
+pub StepsTo-IsWithinSugar : {key : List ℕ → List ℕ} (K : IsMonomialOrder key) {F : Field} (L : IsField F) (G : List Sugared) → ArePolynomials F (polynomials_of G) → All (λ g. g ≢ empty) (polynomials_of G)
+    → AreWithinSugars G → (h : Sugared) → IsPolynomial F h.polynomial → DegreeAtMost h.sugar h.polynomial → (states : List Division) (last : Division)
+    → StepsTo (IsDivisionStep F key G) (division_start G h) states last → IsWithinSugar G last
+unfolding member_at
+StepsTo-IsWithinSugar K L G A nonzero within h H bound states last steps =
+    let X = in_ring A in
+    IsWithinSugar-StepsTo K L G X (All-map_back (λ g. g ≢ empty) (λ g. g.map) X.list (subst (All (λ g. g ≢ empty)) (sym X.are) nonzero)) h H last
+    (λ k l. within k (record { polynomial = empty; sugar = 0 }) l) bound states steps

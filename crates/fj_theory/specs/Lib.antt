@@ -23,3 +23,4 @@ pub mod BasisLaws
 pub mod PolynomialLaws
 pub mod Plain
 pub mod Certificate
+pub mod Rows
