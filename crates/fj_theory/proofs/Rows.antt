@@ -1,18 +1,27 @@
 -- Laws of rows of cofactors: what is made of polynomials is made of their rows.
-use Rattle.std.proofs.Common.{◌<◌, get_or, set, ◌≡◌, ℕ, suc, zero, List, [], ◌∷◌, length, replicate, refl, sym, ap, ap₂, ◌∙◌, subst, arith}
+use Rattle.std.proofs.Common.{◌<◌, get_or, set, ◌≡◌, ℕ, suc, zero, List, [], ◌∷◌, length, replicate, refl, sym, ap, ap₂, ◌∙◌, subst, arith, map, All, ◌≢◌}
 use Rattle.std.proofs.lemmas.List.{length-map}
 use Rattle.std.specs.FinMap.{empty}
 use Rattle.fj_coeff.specs.Field.{Field, IsField}
 use Rattle.fj_algebra.specs.Ring.{CommutativeRing}
 use Rattle.fj_algebra.specs.Ideal as ring_ideal
 use Rattle.fj_algebra.proofs.Ring.{ring_laws}
-use Rattle.fj_theory.specs.Polynomial.{Polynomial, IsPolynomial, sum, product}
+use Rattle.fj_theory.specs.Polynomial.{Polynomial, IsPolynomial, sum, product, negation}
 use Rattle.fj_theory.specs.Ideal.{ArePolynomials, list_combination}
 use Rattle.fj_theory.specs.Rows.{add_multiple, add_multiples, IsRow, AreRows}
+use Rattle.fj_theory.specs.MonomialOrder.{IsMonomialOrder}
+use Rattle.fj_theory.specs.Division.{Sugared, polynomials_of, Division, IsDivision, difference}
+use Rattle.fj_theory.proofs.Division.{IsDivision-quotients, IsDivision-remainder}
 use Rattle.fj_theory.proofs.Polynomial.{IsPolynomial-empty, IsPolynomial-sum}
 use Rattle.fj_theory.proofs.Product.{IsPolynomial-product}
-use Rattle.fj_theory.proofs.PolynomialRing.{sum_comm, product_comm, product_empty, sum_empty, sum_assoc, PolynomialOver, polynomial_ring, map_add, map_mul}
+use Rattle.fj_theory.proofs.PolynomialRing.{sum_comm, product_comm, product_empty, sum_empty, sum_assoc, PolynomialOver, polynomial_ring, map_add, map_mul, map_neg, IsPolynomial-negation}
 use Rattle.fj_theory.proofs.IdealBridge.{InRing, over, maps, in_ring, ArePolynomials-nil, ArePolynomials-cons, ArePolynomials-head, ArePolynomials-tail, list_combination_map}
+
+no_sign : {A : Type 0} (R : CommutativeRing A) → R.zero ≡ R.neg R.zero
+no_sign R = simp ring_laws
+
+one_sign : {A : Type 0} (R : CommutativeRing A) (c g X : A) → R.add (R.mul (R.neg c) g) (R.neg X) ≡ R.neg (R.add (R.mul c g) X)
+one_sign R c g X = simp ring_laws
 
 none : {A : Type 0} (R : CommutativeRing A) (f : A) → R.zero ≡ R.add R.zero (R.mul f R.zero)
 none R f = simp ring_laws
@@ -151,3 +160,37 @@ module _ {F : Field} (L : IsField F) where
         long = ap suc rest.long;
         is = sym (ap₂ (sum F) (product_comm L (IsPolynomial-empty F) G ∙ product_empty L G) (sym rest.is) ∙ sum_comm L (IsPolynomial-empty F) P ∙ sum_empty L P);
       }
+
+  negated : (cs N : List (PolynomialOver F)) → ring_ideal.list_combination (polynomial_ring L) (map (polynomial_ring L).neg cs) N ≡ (polynomial_ring L).neg (ring_ideal.list_combination (polynomial_ring L) cs N)
+  negated [] N = no_sign (polynomial_ring L)
+  negated (c ∷ cs) [] = no_sign (polynomial_ring L)
+  negated (c ∷ cs) (g ∷ N) = ap ((polynomial_ring L).add ((polynomial_ring L).mul ((polynomial_ring L).neg c) g)) (negated cs N) ∙ one_sign (polynomial_ring L) c g _
+
+  negated-maps : (cs : List (PolynomialOver F)) → maps (map (polynomial_ring L).neg cs) ≡ map (negation F) (maps cs)
+  negated-maps [] = refl
+  negated-maps (c ∷ cs) = ap₂ ◌∷◌ (map_neg L c) (negated-maps cs)
+
+  -- The combination with the opposite row.
+  pub list_combination-negation : {cs N : List Polynomial} → ArePolynomials F cs → ArePolynomials F N → list_combination F (map (negation F) cs) N ≡ negation F (list_combination F cs N)
+  list_combination-negation {cs} {N} C A =
+      let X = in_ring C in
+      let Y = in_ring A in
+      let R = polynomial_ring L in
+      sym (list_combination_map L (map R.neg X.list) Y.list ∙ ap₂ (list_combination F) (negated-maps X.list ∙ ap (map (negation F)) X.are) Y.are)
+      ∙ ap (λ g. g.map) (negated X.list Y.list) ∙ map_neg L (ring_ideal.list_combination R X.list Y.list)
+      ∙ ap (negation F) (list_combination_map L X.list Y.list ∙ ap₂ (list_combination F) X.are Y.are)
+
+  ArePolynomials-negation : (cs : List Polynomial) → ArePolynomials F cs → ArePolynomials F (map (negation F) cs)
+  ArePolynomials-negation [] A = ArePolynomials-nil
+  ArePolynomials-negation (c ∷ cs) A = ArePolynomials-cons (IsPolynomial-negation L (ArePolynomials-head A)) (ArePolynomials-negation cs (ArePolynomials-tail A))
+
+  -- The row of a remainder, from the rows of the members and of the dividend.
+  pub IsRow-remainder : {key : List ℕ → List ℕ} → IsMonomialOrder key → (G : List Sugared) → ArePolynomials F (polynomials_of G) → All (λ g. g ≢ empty) (polynomials_of G) → {h : Sugared} {last : Division}
+      → IsPolynomial F h.polynomial → IsDivision F key G h last → {N : List Polynomial} → ArePolynomials F N → (rows : List (List Polynomial)) {row : List Polynomial}
+      → AreRows F N (polynomials_of G) rows → IsRow F N h.polynomial row → IsRow F N last.remainder (add_multiples F (map (negation F) last.quotients) rows row)
+  unfolding difference
+  IsRow-remainder K G A some {h} {last} H D {N} B rows {row} all r =
+      let Q = IsDivision-quotients K L G A some H D in
+      subst (λ f. IsRow F N f (add_multiples F (map (negation F) last.quotients) rows row))
+      (ap (sum F h.polynomial) (list_combination-negation Q A) ∙ sym (IsDivision-remainder K L G A some H D))
+      (IsRow-add_multiples B (map (negation F) last.quotients) (polynomials_of G) rows (ArePolynomials-negation last.quotients Q) all r)
