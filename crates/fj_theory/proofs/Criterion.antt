@@ -75,7 +75,8 @@ module _ {key : List ℕ → List ℕ} (K : IsMonomialOrder key) {F : Field} (L 
     represented : (i j : ℕ) (s : IsSettled F key G (i, j)) → s_over K L list state kept i j ≡ ring_ideal.combination P.ring (λ k. over (s.polynomials k)) list
     unfolding list ordered_polynomials polynomials state
     represented i j s =
-        over_equal _ _ (s_over-map K L list state kept i j ∙ s.is ∙ ap (combination F s.cofactors) (sym (in_ring A).are) ∙ sym (combination_map L (λ k. over (s.polynomials k)) list))
+        over_equal _ _ (s_over-map K L list state kept i j ∙ s.is ∙ ap (combination F s.cofactors) (sym (in_ring A).are)
+        ∙ sym (combination_map L (λ k. over (s.polynomials k)) list))
 
     under : (i j : ℕ) (s : IsSettled F key G (i, j)) (k : ℕ) → k < length list → (e : Exponents) → coefficient_at L (over (s.polynomials k)) e ≢ (field_ring L).zero
         → order.IsBelow (monomial_order K) (times e (lead K L list state kept k)) (common_multiple (lead K L list state kept i) (lead K L list state kept j))

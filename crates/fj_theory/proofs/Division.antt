@@ -39,25 +39,32 @@ use Rattle.fj_theory.proofs.ReducedBasis.{positive, positive_back, exponents_of,
 use Rattle.fj_theory.proofs.Steps.{StepsTo-end, StepsTo-through, StepsTo-keeps}
 
 -- The first divisor is one, and where there is none no lead divides.
-pub first_divisor-Some : (key : List ℕ → List ℕ) (G : List Sugared) (a : List ℕ) (k : ℕ) → first_divisor key G a ≡ Some k → (k < length G) × IsTrue (divides (lead_exponents key (member_at G k).polynomial) a)
+pub first_divisor-Some : (key : List ℕ → List ℕ) (G : List Sugared) (a : List ℕ) (k : ℕ) → first_divisor key G a ≡ Some k → (k < length G)
+    × IsTrue (divides (lead_exponents key (member_at G k).polynomial) a)
 unfolding first_divisor member_at
 first_divisor-Some key [] a k e = absurd (none-some k e)
 first_divisor-Some key (g ∷ G) a k e = go (divides (lead_exponents key g.polynomial) a) refl (first_divisor key G a) (first_divisor-Some key G a) e
   where
-    go : (t : Bool) → divides (lead_exponents key g.polynomial) a ≡ t → (o : Option ℕ) → ((j : ℕ) → o ≡ Some j → (j < length G) × IsTrue (divides (lead_exponents key (get_or G j (record { polynomial = empty; sugar = 0 })).polynomial) a)) → cond t (Some 0) (option_map suc o) ≡ Some k → (k < suc (length G)) × IsTrue (divides (lead_exponents key (get_or (g ∷ G) k (record { polynomial = empty; sugar = 0 })).polynomial) a)
-    go true d o f h = let z = same_Some 0 k h in subst (λ k. (k < suc (length G)) × IsTrue (divides (lead_exponents key (get_or (g ∷ G) k (record { polynomial = empty; sugar = 0 })).polynomial) a)) z (omega arith, d)
+    go : (t : Bool) → divides (lead_exponents key g.polynomial) a ≡ t → (o : Option ℕ)
+        → ((j : ℕ) → o ≡ Some j → (j < length G) × IsTrue (divides (lead_exponents key (get_or G j (record { polynomial = empty; sugar = 0 })).polynomial) a))
+        → cond t (Some 0) (option_map suc o) ≡ Some k → (k < suc (length G))
+        × IsTrue (divides (lead_exponents key (get_or (g ∷ G) k (record { polynomial = empty; sugar = 0 })).polynomial) a)
+    go true d o f h = let z = same_Some 0 k h in subst (λ k. (k < suc (length G))
+        × IsTrue (divides (lead_exponents key (get_or (g ∷ G) k (record { polynomial = empty; sugar = 0 })).polynomial) a)) z (omega arith, d)
     go false d None f h = absurd (none-some k h)
     go false d (Some j) f h =
         let z = same_Some (suc j) k h in
         let rest = f j refl in
         subst (λ k. (k < suc (length G)) × IsTrue (divides (lead_exponents key (get_or (g ∷ G) k (record { polynomial = empty; sugar = 0 })).polynomial) a)) z (omega (arith, rest.0), rest.1)
 
-pub first_divisor-None : (key : List ℕ → List ℕ) (G : List Sugared) (a : List ℕ) → first_divisor key G a ≡ None → All (λ g. divides (lead_exponents key g.polynomial) a ≡ false) G
+pub first_divisor-None : (key : List ℕ → List ℕ) (G : List Sugared) (a : List ℕ) → first_divisor key G a ≡ None
+    → All (λ g. divides (lead_exponents key g.polynomial) a ≡ false) G
 unfolding first_divisor
 first_divisor-None key [] a e = All-nil (λ g. divides (lead_exponents key g.polynomial) a ≡ false)
 first_divisor-None key (g ∷ G) a e = go (divides (lead_exponents key g.polynomial) a) refl (first_divisor key G a) (first_divisor-None key G a) e
   where
-    go : (t : Bool) → divides (lead_exponents key g.polynomial) a ≡ t → (o : Option ℕ) → (o ≡ None → All (λ g. divides (lead_exponents key g.polynomial) a ≡ false) G) → cond t (Some 0) (option_map suc o) ≡ None → All (λ g. divides (lead_exponents key g.polynomial) a ≡ false) (g ∷ G)
+    go : (t : Bool) → divides (lead_exponents key g.polynomial) a ≡ t → (o : Option ℕ) → (o ≡ None → All (λ g. divides (lead_exponents key g.polynomial) a ≡ false) G)
+        → cond t (Some 0) (option_map suc o) ≡ None → All (λ g. divides (lead_exponents key g.polynomial) a ≡ false) (g ∷ G)
     go true d o f h = absurd (none-some 0 (sym h))
     go false d (Some j) f h = absurd (none-some (suc j) (sym h))
     go false d None f h = All-cons (λ g. divides (lead_exponents key g.polynomial) a ≡ false) g G d (f refl)
@@ -138,7 +145,8 @@ module _ {key : List ℕ → List ℕ} (K : IsMonomialOrder key) {F : Field} (L 
       let hi = L.inverse_below d p hd in
       L.mul_assoc c (F.inverse d) d hc hi hd ∙ ap (F.mul c) (L.mul_comm (F.inverse d) d hi hd ∙ L.mul_inverse d p hd) ∙ L.mul_one c hc
 
-  cancel_over : (G : List Sugared) (M : List (PolynomialOver F)) (s : State) (sugar k : ℕ) (g : PolynomialOver F) → s.dividend.map ≢ empty → g.map ≢ empty → k < length M → get_or M k g ≡ g
+  cancel_over : (G : List Sugared) (M : List (PolynomialOver F)) (s : State) (sugar k : ℕ) (g : PolynomialOver F) → s.dividend.map ≢ empty → g.map ≢ empty → k < length M
+      → get_or M k g ≡ g
       → IsTrue (divides (lead_exponents key g.map) (lead_exponents key s.dividend.map))
       → StepOver G M s sugar (cancel_lead F key k (record { polynomial = g.map; sugar = (member_at G k).sugar }) (forget s sugar))
   unfolding forget cancel_lead ordered_polynomials polynomials scalars coefficient_at term_at lead_at monomials times
@@ -155,14 +163,17 @@ module _ {key : List ℕ → List ℕ} (K : IsMonomialOrder key) {F : Field} (L 
         monomial = monomial;
         height = exponents_equal _ _ (plus_comm _ _ ∙ plus-minus A B d);
         scalar = scalar;
-        cancels = element_equal _ _ (rank_mul L scalar _ ∙ ap (F.mul scalar.rank) (coefficient-lead K g.is_polynomial) ∙ factor_cancels _ _ hc hd hp ∙ sym (coefficient-lead K s.dividend.is_polynomial));
+        cancels = element_equal _ _ (rank_mul L scalar _ ∙ ap (F.mul scalar.rank) (coefficient-lead K g.is_polynomial) ∙ factor_cancels _ _ hc hd hp
+            ∙ sym (coefficient-lead K s.dividend.is_polynomial));
         dividend = refl;
         quotients = refl;
         remainder = refl;
       }) (λ i. record {
-        dividend = sym (map_subtract L s.dividend (ring.mul (term_at L scalar monomial) g) ∙ ap (difference F s.dividend.map) (map_mul L (term_at L scalar monomial) g)) i;
+        dividend = sym (map_subtract L s.dividend (ring.mul (term_at L scalar monomial) g)
+            ∙ ap (difference F s.dividend.map) (map_mul L (term_at L scalar monomial) g)) i;
         quotients = sym (map-set (λ q. q.map) s.quotients k (ring.add (get_or s.quotients k ring.zero) (term_at L scalar monomial))
-            ∙ ap (set (maps s.quotients) k) (map_add L (get_or s.quotients k ring.zero) (term_at L scalar monomial) ∙ ap (λ q. sum F q (term_at L scalar monomial).map) (sym (member_zero s.quotients k)))) i;
+            ∙ ap (set (maps s.quotients) k) (map_add L (get_or s.quotients k ring.zero) (term_at L scalar monomial)
+            ∙ ap (λ q. sum F q (term_at L scalar monomial).map) (sym (member_zero s.quotients k)))) i;
         remainder = s.remainder.map;
         sugar = max sugar (total monomial.list + (member_at G k).sugar);
       })
@@ -210,9 +221,11 @@ module _ {key : List ℕ → List ℕ} (K : IsMonomialOrder key) {F : Field} (L 
         quotients = refl;
         remainder = refl;
       }) (λ i. record {
-        dividend = sym (map_subtract L s.dividend (term_at L scalar lead) ∙ ap (λ c. difference F s.dividend.map (term c lead.list)) (coefficient-lead K s.dividend.is_polynomial)) i;
+        dividend = sym (map_subtract L s.dividend (term_at L scalar lead)
+            ∙ ap (λ c. difference F s.dividend.map (term c lead.list)) (coefficient-lead K s.dividend.is_polynomial)) i;
         quotients = maps s.quotients;
-        remainder = sym (map_add L s.remainder (term_at L scalar lead) ∙ ap (λ c. sum F s.remainder.map (term c lead.list)) (coefficient-lead K s.dividend.is_polynomial)) i;
+        remainder = sym (map_add L s.remainder (term_at L scalar lead)
+            ∙ ap (λ c. sum F s.remainder.map (term c lead.list)) (coefficient-lead K s.dividend.is_polynomial)) i;
         sugar = sugar;
       })
     where
@@ -306,11 +319,13 @@ module _ {key : List ℕ → List ℕ} (K : IsMonomialOrder key) {F : Field} (L 
           })
     ]
 
-    start_over : (h : Sugared) (H : IsPolynomial F h.polynomial) → division_start G h ≡ forget (record { dividend = over H; quotients = replicate (length X.list) (polynomial_ring L).zero; remainder = (polynomial_ring L).zero }) h.sugar
+    start_over : (h : Sugared) (H : IsPolynomial F h.polynomial)
+        → division_start G h ≡ forget (record { dividend = over H; quotients = replicate (length X.list) (polynomial_ring L).zero; remainder = (polynomial_ring L).zero }) h.sugar
     unfolding forget division_start
     start_over h H = λ i. record {
       dividend = h.polynomial;
-      quotients = (ap (λ n. replicate n empty) (sym same_length) ∙ ap (replicate (length X.list)) (sym (map_zero L)) ∙ sym (map-replicate (λ f. f.map) (length X.list) (polynomial_ring L).zero)) i;
+      quotients = (ap (λ n. replicate n empty) (sym same_length) ∙ ap (replicate (length X.list)) (sym (map_zero L))
+          ∙ sym (map-replicate (λ f. f.map) (length X.list) (polynomial_ring L).zero)) i;
       remainder = sym (map_zero L) i;
       sugar = h.sugar;
     }
@@ -385,7 +400,8 @@ module _ {key : List ℕ → List ℕ} (K : IsMonomialOrder key) {F : Field} (L 
       pub IsDivision-length : length last.quotients ≡ length G
       unfolding forget
       IsDivision-length =
-          ap (λ d. length d.quotients) the.is ∙ length-map the.state.quotients (λ f. f.map) ∙ (ring_laws.division_identity P the.division).1 ∙ same_length G ring (nonzero_over ring)
+          ap (λ d. length d.quotients) the.is ∙ length-map the.state.quotients (λ f. f.map) ∙ (ring_laws.division_identity P the.division).1
+          ∙ same_length G ring (nonzero_over ring)
 
       -- The identity of division: h is the sum of quotient * member, and the remainder.
       pub division_identity : h.polynomial ≡ sum F (list_combination F last.quotients (polynomials_of G)) last.remainder
@@ -401,9 +417,11 @@ module _ {key : List ℕ → List ℕ} (K : IsMonomialOrder key) {F : Field} (L 
       IsDivision-remainder =
           let q = ring_ideal.list_combination (polynomial_ring L) the.state.quotients ring.list in
           ap (λ d. d.remainder) the.is
-          ∙ ap (λ f. f.map) (left_over (polynomial_ring L) q the.state.remainder ∙ ap (λ f. subtract (polynomial_ring L) f q) (sym (ring_laws.division_identity P the.division).0))
+          ∙ ap (λ f. f.map) (left_over (polynomial_ring L) q the.state.remainder
+          ∙ ap (λ f. subtract (polynomial_ring L) f q) (sym (ring_laws.division_identity P the.division).0))
           ∙ map_subtract L (over H) q
-          ∙ ap (difference F h.polynomial) (list_combination_map L the.state.quotients ring.list ∙ ap (list_combination F (maps the.state.quotients)) ring.are ∙ ap (λ d. list_combination F d.quotients (polynomials_of G)) (sym the.is))
+          ∙ ap (difference F h.polynomial) (list_combination_map L the.state.quotients ring.list ∙ ap (list_combination F (maps the.state.quotients)) ring.are
+          ∙ ap (λ d. list_combination F d.quotients (polynomials_of G)) (sym the.is))
 
       -- No term of the remainder is divided by a lead.
       pub IsDivision-reduced : (a : List ℕ) → 0 < coefficient last.remainder a → LeadDivides key (polynomials_of G) a → ⊥
@@ -422,7 +440,8 @@ module _ {key : List ℕ → List ℕ} (K : IsMonomialOrder key) {F : Field} (L 
           let s = single ring.list (ring.are ∙ e) in
           let division = subst (λ N. ring_division.IsDivision P N (over H) the.state) s.1 the.division in
           let some : g ≢ empty = All-head (λ g. g ≢ empty) g [] (subst (All (λ g. g ≢ empty)) e nonzero) in
-          ap (λ f. f.map) (exact_division P (λ z. some (sym s.2 ∙ ap (λ f. f.map) z ∙ map_zero L)) (Member_over L (record { list = s.0 ∷ []; are = ap (λ x. x ∷ []) s.2 }) H m) division)
+          ap (λ f. f.map) (exact_division P (λ z. some (sym s.2 ∙ ap (λ f. f.map) z
+          ∙ map_zero L)) (Member_over L (record { list = s.0 ∷ []; are = ap (λ x. x ∷ []) s.2 }) H m) division)
           ∙ map_mul L s.0 (get_or the.state.quotients 0 (polynomial_ring L).zero)
           ∙ ap₂ (product F) s.2 (sym (member_zero the.state.quotients 0) ∙ ap (λ d. get_or d.quotients 0 empty) (sym the.is))
 

@@ -41,7 +41,8 @@ pub filter-map : {X Y : Type 0} (f : X → Y) (p : Y → Bool) (xs : List X) →
 filter-map f p [] = refl
 filter-map f p (x ∷ xs) = go (p (f x)) (filter-map f p xs)
   where
-    go : (t : Bool) → map f (filter (λ x. p (f x)) xs) ≡ filter p (map f xs) → map f (cond t (x ∷ filter (λ x. p (f x)) xs) (filter (λ x. p (f x)) xs)) ≡ cond t (f x ∷ filter p (map f xs)) (filter p (map f xs))
+    go : (t : Bool) → map f (filter (λ x. p (f x)) xs) ≡ filter p (map f xs)
+        → map f (cond t (x ∷ filter (λ x. p (f x)) xs) (filter (λ x. p (f x)) xs)) ≡ cond t (f x ∷ filter p (map f xs)) (filter p (map f xs))
     go true e = ap (λ l. f x ∷ l) e
     go false e = e
 
@@ -159,7 +160,8 @@ module _ {F : Field} (L : IsField F) where
         (all_lack X lacks_I) (all_lack Y lacks_J) over.members over.covers)
 
     -- They are the reduced Grevlex basis of the meet.
-    pub IsReducedBasis-elimination : {N : List Polynomial} → All (UsesFirst 7) I → All (UsesFirst 7) J → IsMeet F I J N → IsReducedBasis F grevlex_key N (without_eighth G)
+    pub IsReducedBasis-elimination : {N : List Polynomial} → All (UsesFirst 7) I → All (UsesFirst 7) J → IsMeet F I J N
+        → IsReducedBasis F grevlex_key N (without_eighth G)
     unfolding ordered_polynomials InRing-without InRing-elimination eighth_over
     IsReducedBasis-elimination lacks_I lacks_J meet =
         let X = in_ring A in

@@ -135,7 +135,8 @@ module _ {key : List ℕ → List ℕ} (K : IsMonomialOrder key) {F : Field} (L 
         go false e = no (λ o. true≢false (sym (left_out_back i l o) ∙ e))
 
     -- The members that are kept.
-    pub kept_is : (w : Sugared) → Contains (kept_members key s.members) w → (i : ℕ) × (i < length kept.over.list) × (is_left_out key s.members i ≡ false) × (member_at s.members i ≡ w)
+    pub kept_is : (w : Sugared) → Contains (kept_members key s.members) w → (i : ℕ) × (i < length kept.over.list) × (is_left_out key s.members i ≡ false)
+        × (member_at s.members i ≡ w)
     unfolding kept_members
     kept_is w c =
         let b = contains_map_back (member_at s.members) (filter (λ i. not (is_left_out key s.members i)) (range_with_len 0 (length s.members))) w c in
@@ -153,7 +154,8 @@ module _ {key : List ℕ → List ℕ} (K : IsMonomialOrder key) {F : Field} (L 
     stays : (i : ℕ) → i < length kept.over.list → is_left_out key s.members i ≡ false → finishing.IsLeftOut P kept.over.list i → ⊥
     stays i l e o = true≢false (sym (left_out_back i l o) ∙ e)
 
-    not_divides : (i j : ℕ) → (l : i < length kept.over.list) → (k : j < length kept.over.list) → (i ≡ j → ⊥) → is_left_out key s.members i ≡ false → is_left_out key s.members j ≡ false
+    not_divides : (i j : ℕ) → (l : i < length kept.over.list) → (k : j < length kept.over.list) → (i ≡ j → ⊥) → is_left_out key s.members i ≡ false
+        → is_left_out key s.members j ≡ false
         → divides (lead_of key s.members i) (lead_of key s.members j) ≡ false
     unfolding the member ordered_polynomials polynomials
     not_divides i j l k n e f =
@@ -190,7 +192,8 @@ module _ {key : List ℕ → List ℕ} (K : IsMonomialOrder key) {F : Field} (L 
     sorted_is : All (λ w. (i : ℕ) × (i < length kept.over.list) × (member_at s.members i ≡ w)) sorted
     unfolding sorted
     sorted_is = All-sort_by_lead key (λ w. (i : ℕ) × (i < length kept.over.list) × (member_at s.members i ≡ w)) (kept_members key s.members)
-        (All-from_elements (λ w. (i : ℕ) × (i < length kept.over.list) × (member_at s.members i ≡ w)) (kept_members key s.members) (λ w c. let k = kept_is w c in (k.0, k.1, k.3)))
+        (All-from_elements (λ w. (i : ℕ) × (i < length kept.over.list)
+        × (member_at s.members i ≡ w)) (kept_members key s.members) (λ w c. let k = kept_is w c in (k.0, k.1, k.3)))
 
     pub sorted_over : InRing F (polynomials_of sorted)
     unfolding the
@@ -234,13 +237,19 @@ module _ {key : List ℕ → List ℕ} (K : IsMonomialOrder key) {F : Field} (L 
     unfolding ordered_polynomials polynomials lead_at
     over_pairs =
         AllPairs-map_back (λ g h. basis.LeadsRise P g h × finishing.LeadsApart P g h)
-        (λ p q. (compare_by key (lead_exponents key p) (lead_exponents key q) ≡ Less) × (divides (lead_exponents key p) (lead_exponents key q) ≡ false)) (λ g. g.map) sorted_over.list
+        (λ p q. (compare_by key (lead_exponents key p) (lead_exponents key q) ≡ Less)
+        × (divides (lead_exponents key p) (lead_exponents key q) ≡ false)) (λ g. g.map) sorted_over.list
         (λ g h r. (
           rises_over K L g h r.0,
-          record { apart = λ a b l k d. true≢false (sym (divides-from_Divides (subst₂ (order.Divides monomials) (lead_from_IsLead K L l) (lead_from_IsLead K L k) d)) ∙ r.1) },
+          record {
+            apart = λ a b l k d. true≢false (sym (divides-from_Divides (subst₂ (order.Divides monomials) (lead_from_IsLead K L l) (lead_from_IsLead K L k) d))
+                ∙ r.1);
+          },
         ))
-        (subst (AllPairs (λ p q. (compare_by key (lead_exponents key p) (lead_exponents key q) ≡ Less) × (divides (lead_exponents key p) (lead_exponents key q) ≡ false))) (sym sorted_over.are)
-        (AllPairs-map (Rises key) (λ p q. (compare_by key (lead_exponents key p) (lead_exponents key q) ≡ Less) × (divides (lead_exponents key p) (lead_exponents key q) ≡ false))
+        (subst (AllPairs (λ p q. (compare_by key (lead_exponents key p) (lead_exponents key q) ≡ Less)
+        × (divides (lead_exponents key p) (lead_exponents key q) ≡ false))) (sym sorted_over.are)
+        (AllPairs-map (Rises key) (λ p q. (compare_by key (lead_exponents key p) (lead_exponents key q) ≡ Less)
+        × (divides (lead_exponents key p) (lead_exponents key q) ≡ false))
         (λ g. g.polynomial) sorted (λ g h c d r. (r.0, r.1.0)) sorted_rises))
 
     over_covers : s.pending ≡ [] → buchberger.CoversLeads P M (Contains sorted_over.list)
@@ -297,7 +306,11 @@ module _ {key : List ℕ → List ℕ} (K : IsMonomialOrder key) {F : Field} (L 
       monic = record {
         lead = λ g c. elim (Contains-append_cases B (remains ∷ []) g c) [
           | inl d ↦ b.monic.lead g d
-          | inr d ↦ elim (contains_cons remains [] g d) [ inl e ↦ subst (λ g. (a : Exponents) × abstract.IsMonic P g a) e ((b.rest_monic.lead m (contains_head m R)).0, remains_monic) | inr n ↦ absurd (contains_nil g n) ]
+          | inr d ↦ elim (contains_cons remains [] g d) [
+            | inl e ↦ subst (λ g. (a : Exponents)
+                × abstract.IsMonic P g a) e ((b.rest_monic.lead m (contains_head m R)).0, remains_monic)
+            | inr n ↦ absurd (contains_nil g n)
+          ]
         ];
       };
       rest_monic = record { lead = λ g c. b.rest_monic.lead g (contains_tail m R g c) };
@@ -324,8 +337,10 @@ module _ {key : List ℕ → List ℕ} (K : IsMonomialOrder key) {F : Field} (L 
       → StepsTo (IsReplacement F key) (record { replaced = before; rest = rest }) states (record { replaced = result; rest = [] }) → Replaced B R result
   unfolding finishing.ReplacedInTurn remains
   replaced [] before rest result B [] b e = record { list = []; in_turn = tt; are = ap maps (append-nil B) ∙ b.before_are ∙ ap (λ x. polynomials_of x.replaced) e }
-  replaced [] before rest result B (m ∷ R) b e = let n : suc (length (maps R)) ≡ 0 = ap length (b.rest_are ∙ ap (λ x. polynomials_of x.rest) e) in absurd (omega (arith, n))
-  replaced (t ∷ states) before rest result B [] b h = let n : 0 ≡ suc (length (polynomials_of h.0.rest)) = ap length (b.rest_are ∙ ap polynomials_of h.0.first) in absurd (omega (arith, n))
+  replaced [] before rest result B (m ∷ R) b e = let n : suc (length (maps R)) ≡ 0 = ap length (b.rest_are
+      ∙ ap (λ x. polynomials_of x.rest) e) in absurd (omega (arith, n))
+  replaced (t ∷ states) before rest result B [] b h = let n : 0 ≡ suc (length (polynomials_of h.0.rest)) = ap length (b.rest_are
+      ∙ ap polynomials_of h.0.first) in absurd (omega (arith, n))
   replaced (t ∷ states) before rest result B (m ∷ R) b h =
       let r = h.0 in
       let x = remains before rest r.rest r.member B R m b r.first r.last r.division.division in
@@ -338,7 +353,8 @@ module _ {key : List ℕ → List ℕ} (K : IsMonomialOrder key) {F : Field} (L 
       }
 
   -- The result of a finished run is the reduced basis.
-  pub IsFinished-IsReducedBasis : {M : List Polynomial} → ArePolynomials F M → {budget : ℕ} {result : List Sugared} → IsFinished F key M budget result → IsReducedBasis F key M (polynomials_of result)
+  pub IsFinished-IsReducedBasis : {M : List Polynomial} → ArePolynomials F M → {budget : ℕ} {result : List Sugared} → IsFinished F key M budget result
+      → IsReducedBasis F key M (polynomials_of result)
   unfolding sorted
   IsFinished-IsReducedBasis A {result = result} f =
       let X = in_ring A in

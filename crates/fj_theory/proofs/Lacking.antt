@@ -45,7 +45,8 @@ module _ {K M A : Type 0} (P : OrderedPolynomials K M A) (t : Variable P.monomia
     ]
 
     -- A lead that divides a monomial of a member is the member's own.
-    own : (b : A) → Contains G b → (a : M) → IsLead P b a → (x : M) → coefficient b x ≢ scalars.zero → (e : M) → Divides P.monomials e x → IsReducible P (Contains G) e → Divides P.monomials a e
+    own : (b : A) → Contains G b → (a : M) → IsLead P b a → (x : M) → coefficient b x ≢ scalars.zero → (e : M) → Divides P.monomials e x → IsReducible P (Contains G) e
+        → Divides P.monomials a e
     own b i a l x n e d r =
         let same = only b r.divisor i r.member x r.lead n r.is_lead (Divides-trans r.divides d) in
         subst (λ y. Divides P.monomials y e) (lead_unique P (subst (λ c. IsLead P c r.lead) same r.is_lead) l) r.divides
@@ -84,7 +85,8 @@ module _ {K M A : Type 0} (P : OrderedPolynomials K M A) (t : Variable P.monomia
                   ∙ ap (λ y. subtract scalars (coefficient b e) y) (c.is e z ∙ ap (coefficient b) (one_times P.monomials e)) ∙ subtract_self scalars (coefficient b e))
               refuted e k (no n) =
                   let none : coefficient g e ≡ scalars.zero = coefficient_outside P.polynomials c.lacks e n in
-                  let some : coefficient b e ≢ scalars.zero = (λ z. k.nonzero (coefficient_subtract P.polynomials b g e ∙ ap₂ (subtract scalars) z none ∙ subtract_self scalars scalars.zero)) in
+                  let some : coefficient b e ≢ scalars.zero = (λ z. k.nonzero (coefficient_subtract P.polynomials b g e ∙ ap₂ (subtract scalars) z none
+                  ∙ subtract_self scalars scalars.zero)) in
                   let inside = Inside-Contains reduced.members i in
                   let r = reduced.covers.covers (subtract P.ring b g) (Member-subtract inside (coefficient_member P t lacks inside c)) (lead_nonzero P k) in
                   let d = own b i a l e some e (Divides-refl P.monomials e) (subst (IsReducible P (Contains G)) (lead_unique P r.is_lead k) r.reducible) in
@@ -113,7 +115,8 @@ module _ {K M A : Type 0} (P : OrderedPolynomials K M A) (t : Variable P.monomia
           lacks_from_lead P t eliminates k (omega (arith, whole, sum))
 
 -- A reduced basis of polynomials that use the first seven variables uses them alone.
-pub IsReducedBasis-UsesFirst : {key : List ℕ → List ℕ} (K : IsMonomialOrder key) {F : Field} (L : IsField F) {M G : List Polynomial} → ArePolynomials F M → All (UsesFirst 7) M
+pub IsReducedBasis-UsesFirst : {key : List ℕ → List ℕ} (K : IsMonomialOrder key) {F : Field} (L : IsField F) {M G : List Polynomial} → ArePolynomials F M
+    → All (UsesFirst 7) M
     → IsReducedBasis F key M G → All (UsesFirst 7) G
 unfolding ordered_polynomials
 IsReducedBasis-UsesFirst K L {M} {G} A uses S =

@@ -76,18 +76,26 @@ module _ {key : List ℕ → List ℕ} (K : IsMonomialOrder key) {F : Field} whe
   unfolding lead_exponents lead_coefficient lead
   lead_cases {f} P = go (terms_falling key f) refl
     where
-      go : (ts : List (List ℕ × ℕ)) → terms_falling key f ≡ ts → (f ≡ empty) ⊎ First key f (unwrap_or {T = List ℕ × ℕ} (slice_get (terms_falling key f) 0) (origin, 0)).0 (unwrap_or {T = List ℕ × ℕ} (slice_get (terms_falling key f) 0) (origin, 0)).1
+      go : (ts : List (List ℕ × ℕ)) → terms_falling key f ≡ ts
+          → (f ≡ empty) ⊎ First key f (unwrap_or {T = List ℕ × ℕ} (slice_get (terms_falling key f) 0) (origin, 0)).0 (unwrap_or {T = List ℕ
+          × ℕ} (slice_get (terms_falling key f) 0) (origin, 0)).1
       go [] e = inl (sym (from_entries-terms_falling K P) ∙ ap from_entries e)
-      go (t ∷ ts) e = inr (subst (λ us. First key f (unwrap_or {T = List ℕ × ℕ} (slice_get us 0) (origin, 0)).0 (unwrap_or {T = List ℕ × ℕ} (slice_get us 0) (origin, 0)).1) (sym e) (first P t ts e))
+      go (t ∷ ts) e = inr (subst (λ us. First key f (unwrap_or {T = List ℕ × ℕ} (slice_get us 0) (origin, 0)).0 (unwrap_or {T = List ℕ
+          × ℕ} (slice_get us 0) (origin, 0)).1) (sym e) (first P t ts e))
 
   module _ {f : Polynomial} (P : IsPolynomial F f) where
     pub IsExponents-lead : IsExponents (lead_exponents key f)
-    IsExponents-lead = elim (lead_cases P) [ inl e ↦ subst IsExponents (sym (ap (lead_exponents key) e ∙ lead_exponents-empty key)) IsExponents-origin | inr f ↦ f.exponents ]
+    IsExponents-lead = elim (lead_cases P) [
+      | inl e ↦ subst IsExponents (sym (ap (lead_exponents key) e
+          ∙ lead_exponents-empty key)) IsExponents-origin
+      | inr f ↦ f.exponents
+    ]
 
     -- The leading coefficient is the coefficient at the lead.
     pub coefficient-lead : coefficient f (lead_exponents key f) ≡ lead_coefficient key f
     coefficient-lead = elim (lead_cases P) [
-      | inl e ↦ ap (λ g. coefficient g (lead_exponents key f)) e ∙ coefficient-empty (lead_exponents key f) ∙ sym (ap (lead_coefficient key) e ∙ lead_coefficient-empty key)
+      | inl e ↦ ap (λ g. coefficient g (lead_exponents key f)) e ∙ coefficient-empty (lead_exponents key f)
+          ∙ sym (ap (lead_coefficient key) e ∙ lead_coefficient-empty key)
       | inr f ↦ f.there
     ]
 
@@ -102,7 +110,11 @@ module _ {key : List ℕ → List ℕ} (K : IsMonomialOrder key) {F : Field} whe
 
     -- Whether a polynomial is zero is decided.
     pub is_zero_map : Dec (f ≡ empty)
-    is_zero_map = elim (lead_cases P) [ inl e ↦ yes e | inr h ↦ no (λ e. let z = ap (λ g. coefficient g (lead_exponents key f)) e ∙ coefficient-empty (lead_exponents key f) in let t = h.there in let n = h.nonzero in absurd (omega (arith, z, t, n))) ]
+    is_zero_map = elim (lead_cases P) [
+      | inl e ↦ yes e
+      | inr h ↦ no (λ e. let z = ap (λ g. coefficient g (lead_exponents key f)) e
+          ∙ coefficient-empty (lead_exponents key f) in let t = h.there in let n = h.nonzero in absurd (omega (arith, z, t, n)))
+    ]
 
     -- The lead, as a monomial.
     unfoldable pub lead_at : Exponents

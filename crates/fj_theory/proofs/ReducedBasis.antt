@@ -31,7 +31,8 @@ use Rattle.fj_theory.proofs.Ideal.{Equal-trans, Equal-sym}
 use Rattle.fj_theory.proofs.Lead.{lead_at, IsLead-from_lead, lead_from_IsLead, nonzero_map, coefficient-lead, nonzero-lead_coefficient, Divides-from_divides, divides-from_Divides}
 
 -- Pairs of the list behind a map.
-pub AllPairs-map_back : {X Y : Type 0} (R : X → X → Type 0) (S : Y → Y → Type 0) (f : X → Y) (xs : List X) → ((x y : X) → S (f x) (f y) → R x y) → AllPairs S (map f xs) → AllPairs R xs
+pub AllPairs-map_back : {X Y : Type 0} (R : X → X → Type 0) (S : Y → Y → Type 0) (f : X → Y) (xs : List X) → ((x y : X) → S (f x) (f y) → R x y) → AllPairs S (map f xs)
+    → AllPairs R xs
 AllPairs-map_back R S f xs h all i j d l k =
     h _ _ (subst (λ y. S (f (get_or xs i d)) y) (get_or-map f xs j d (f d) k)
     (subst (λ x. S x (get_or (map f xs) j (f d))) (get_or-map f xs i d (f d) (omega (arith, l, k))) (all i j (f d) l (omega (arith, k, length-map xs f)))))
@@ -84,11 +85,13 @@ module _ {key : List ℕ → List ℕ} (K : IsMonomialOrder key) {F : Field} (L 
     below = λ a b u v. subst (λ b. order.IsBelow (monomial_order K) a b) (sym (lead_from_IsLead K L v)) (subst (λ a. order.IsBelow (monomial_order K) a (lead_at K h.is_polynomial)) (sym (lead_from_IsLead K L u)) (record { is_less = l }));
   }
 
-  rises_map : (g h : PolynomialOver F) → g.map ≢ empty → h.map ≢ empty → basis.LeadsRise P g h → compare_by key (lead_exponents key g.map) (lead_exponents key h.map) ≡ Less
+  rises_map : (g h : PolynomialOver F) → g.map ≢ empty → h.map ≢ empty → basis.LeadsRise P g h
+      → compare_by key (lead_exponents key g.map) (lead_exponents key h.map) ≡ Less
   unfolding ordered_polynomials polynomials monomial_order lead_at
   rises_map g h n m r = (r.below _ _ (IsLead-from_lead K L g n) (IsLead-from_lead K L h m)).is_less
 
-  rising_over : (N : List (PolynomialOver F)) → IsRising key (map (lead_exponents key) (maps N)) → AllPairs (λ g h. compare_by key (lead_exponents key g.map) (lead_exponents key h.map) ≡ Less) N
+  rising_over : (N : List (PolynomialOver F)) → IsRising key (map (lead_exponents key) (maps N))
+      → AllPairs (λ g h. compare_by key (lead_exponents key g.map) (lead_exponents key h.map) ≡ Less) N
   rising_over [] r = λ i j d l k. absurd (omega arith)
   rising_over (g ∷ []) r = λ i j d l k. absurd (omega (arith, l, k))
   rising_over (g ∷ h ∷ N) r =
@@ -96,7 +99,8 @@ module _ {key : List ℕ → List ℕ} (K : IsMonomialOrder key) {F : Field} (L 
       let Below : PolynomialOver F → PolynomialOver F → Type 0 = λ g h. compare_by key (lead_exponents key g.map) (lead_exponents key h.map) ≡ Less in
       AllPairs-cons Below g (h ∷ N) (All-cons (Below g) h N r.0 (λ k d l. (compare_by_total key).trans _ _ _ r.0 (AllPairs-head Below h N rest (get_or N k d) (Contains-get_or N k d l)))) rest
 
-  rising_map : (N : List (PolynomialOver F)) → AllPairs (λ g h. compare_by key (lead_exponents key g.map) (lead_exponents key h.map) ≡ Less) N → IsRising key (map (lead_exponents key) (maps N))
+  rising_map : (N : List (PolynomialOver F)) → AllPairs (λ g h. compare_by key (lead_exponents key g.map) (lead_exponents key h.map) ≡ Less) N
+      → IsRising key (map (lead_exponents key) (maps N))
   rising_map [] r = tt
   rising_map (g ∷ []) r = tt
   rising_map (g ∷ h ∷ N) r =
@@ -118,7 +122,8 @@ module _ {key : List ℕ → List ℕ} (K : IsMonomialOrder key) {F : Field} (L 
   }
 
   -- The monomials that a lead of a list divides, both ways.
-  pub IsReducible-from_LeadDivides : (N : List (PolynomialOver F)) (a : Exponents) → All (λ g. g.map ≢ empty) N → LeadDivides key (maps N) a.list → buchberger.IsReducible P (Contains N) a
+  pub IsReducible-from_LeadDivides : (N : List (PolynomialOver F)) (a : Exponents) → All (λ g. g.map ≢ empty) N → LeadDivides key (maps N) a.list
+      → buchberger.IsReducible P (Contains N) a
   unfolding ordered_polynomials polynomials lead_at
   IsReducible-from_LeadDivides N a all d =
       let found = Any-element (λ g. IsTrue (divides (lead_exponents key g) a.list)) (maps N) d in
@@ -213,8 +218,10 @@ module _ {key : List ℕ → List ℕ} (K : IsMonomialOrder key) {F : Field} (L 
         let X = in_ring A in
         let law = laws.reduced_basis_zero P X.list in (
           λ B. subst (All (λ g. g ≡ empty)) X.are (All-map (λ g. g ≡ empty) (λ g. g.map) X.list
-              (All-weaker (λ g. g ≡ (polynomial_ring L).zero) (λ g. g.map ≡ empty) (λ g e. ap (λ x. x.map) e ∙ map_zero L) X.list (law.0 (IsReducedBasis_over X InRing-nil B)))),
-          λ all. IsReducedBasis_map X InRing-nil (law.1 (All-weaker (λ g. g.map ≡ empty) (λ g. g ≡ (polynomial_ring L).zero) (λ g e. over_equal _ _ (e ∙ sym (map_zero L))) X.list
+              (All-weaker (λ g. g ≡ (polynomial_ring L).zero) (λ g. g.map ≡ empty) (λ g e. ap (λ x. x.map) e
+              ∙ map_zero L) X.list (law.0 (IsReducedBasis_over X InRing-nil B)))),
+          λ all. IsReducedBasis_map X InRing-nil (law.1 (All-weaker (λ g. g.map ≡ empty) (λ g. g ≡ (polynomial_ring L).zero) (λ g e. over_equal _ _ (e
+              ∙ sym (map_zero L))) X.list
               (All-map_back (λ g. g ≡ empty) (λ g. g.map) X.list (subst (All (λ g. g ≡ empty)) (sym X.are) all)))),
         )
 

@@ -26,7 +26,8 @@ one_sign R c g X = simp ring_laws
 none : {A : Type 0} (R : CommutativeRing A) (f : A) → R.zero ≡ R.add R.zero (R.mul f R.zero)
 none R f = simp ring_laws
 
-one_more : {A : Type 0} (R : CommutativeRing A) (f x y g X Y : A) → R.add (R.mul (R.add x (R.mul f y)) g) (R.add X (R.mul f Y)) ≡ R.add (R.add (R.mul x g) X) (R.mul f (R.add (R.mul y g) Y))
+one_more : {A : Type 0} (R : CommutativeRing A) (f x y g X Y : A)
+    → R.add (R.mul (R.add x (R.mul f y)) g) (R.add X (R.mul f Y)) ≡ R.add (R.add (R.mul x g) X) (R.mul f (R.add (R.mul y g) Y))
 one_more R f x y g X Y = simp ring_laws
 
 module _ {F : Field} (L : IsField F) where
@@ -58,9 +59,11 @@ module _ {F : Field} (L : IsField F) where
   IsPolynomial-list_combination C A =
       let X = in_ring C in
       let Y = in_ring A in
-      subst (IsPolynomial F) (list_combination_map L X.list Y.list ∙ ap₂ (list_combination F) X.are Y.are) (ring_ideal.list_combination (polynomial_ring L) X.list Y.list).is_polynomial
+      subst (IsPolynomial F) (list_combination_map L X.list Y.list
+      ∙ ap₂ (list_combination F) X.are Y.are) (ring_ideal.list_combination (polynomial_ring L) X.list Y.list).is_polynomial
 
-  ArePolynomials-add_multiple : {f : Polynomial} → IsPolynomial F f → (xs ys : List Polynomial) → ArePolynomials F xs → ArePolynomials F ys → ArePolynomials F (add_multiple F f xs ys)
+  ArePolynomials-add_multiple : {f : Polynomial} → IsPolynomial F f → (xs ys : List Polynomial) → ArePolynomials F xs → ArePolynomials F ys
+      → ArePolynomials F (add_multiple F f xs ys)
   unfolding add_multiple
   ArePolynomials-add_multiple P [] ys A B = A
   ArePolynomials-add_multiple P (x ∷ xs) [] A B = A
@@ -84,7 +87,8 @@ module _ {F : Field} (L : IsField F) where
         let Z = in_ring A in
         let lc : List (PolynomialOver F) → PolynomialOver F = λ cs. ring_ideal.list_combination (polynomial_ring L) cs Z.list in
         let is : (W : InRing F xs) → (lc W.list).map ≡ list_combination F xs N = (λ W. list_combination_map L W.list Z.list ∙ ap₂ (list_combination F) W.are Z.are) in
-        sym (list_combination_map L (add_over (over P) X.list Y.list) Z.list ∙ ap₂ (list_combination F) (add_over-maps (over P) X.list Y.list ∙ ap₂ (add_multiple F f) X.are Y.are) Z.are)
+        sym (list_combination_map L (add_over (over P) X.list Y.list) Z.list
+        ∙ ap₂ (list_combination F) (add_over-maps (over P) X.list Y.list ∙ ap₂ (add_multiple F f) X.are Y.are) Z.are)
         ∙ ap (λ g. g.map) (add_over-combination (over P) X.list Y.list Z.list (same_length X Y e))
         ∙ map_add L (lc X.list) _
         ∙ ap₂ (sum F) (is X) (map_mul L (over P) (lc Y.list) ∙ ap (product F f) (list_combination_map L Y.list Z.list ∙ ap₂ (list_combination F) Y.are Z.are))
@@ -96,7 +100,8 @@ module _ {F : Field} (L : IsField F) where
     IsRow-polynomial r = subst (IsPolynomial F) (sym r.is) (IsPolynomial-list_combination r.polynomials A)
 
     -- The row of a sum with a multiple.
-    pub IsRow-add_multiple : {f a b : Polynomial} {xs ys : List Polynomial} → IsPolynomial F f → IsRow F N a xs → IsRow F N b ys → IsRow F N (sum F a (product F f b)) (add_multiple F f xs ys)
+    pub IsRow-add_multiple : {f a b : Polynomial} {xs ys : List Polynomial} → IsPolynomial F f → IsRow F N a xs → IsRow F N b ys
+        → IsRow F N (sum F a (product F f b)) (add_multiple F f xs ys)
     IsRow-add_multiple {f} {a} {b} {xs} {ys} P r s = record {
       polynomials = ArePolynomials-add_multiple P xs ys r.polynomials s.polynomials;
       long = length-add_multiple f xs ys ∙ r.long;
@@ -111,7 +116,8 @@ module _ {F : Field} (L : IsField F) where
     rows_polynomials (g ∷ G) (row ∷ rows) all = ArePolynomials-cons (IsRow-polynomial all.0) (rows_polynomials G rows all.1)
 
     -- The row of a sum with a combination, from the rows of its list.
-    pub IsRow-add_multiples : (fs G : List Polynomial) (rows : List (List Polynomial)) {a : Polynomial} {first : List Polynomial} → ArePolynomials F fs → AreRows F N G rows → IsRow F N a first
+    pub IsRow-add_multiples : (fs G : List Polynomial) (rows : List (List Polynomial)) {a : Polynomial} {first : List Polynomial} → ArePolynomials F fs
+        → AreRows F N G rows → IsRow F N a first
         → IsRow F N (sum F a (list_combination F fs G)) (add_multiples F fs rows first)
     unfolding add_multiples AreRows list_combination
     IsRow-add_multiples [] G rows {first = first} B all r = subst (λ f. IsRow F N f first) (sym (sum_empty L (IsRow-polynomial r))) r
@@ -171,7 +177,8 @@ module _ {F : Field} (L : IsField F) where
   negated-maps (c ∷ cs) = ap₂ ◌∷◌ (map_neg L c) (negated-maps cs)
 
   -- The combination with the opposite row.
-  pub list_combination-negation : {cs N : List Polynomial} → ArePolynomials F cs → ArePolynomials F N → list_combination F (map (negation F) cs) N ≡ negation F (list_combination F cs N)
+  pub list_combination-negation : {cs N : List Polynomial} → ArePolynomials F cs → ArePolynomials F N
+      → list_combination F (map (negation F) cs) N ≡ negation F (list_combination F cs N)
   list_combination-negation {cs} {N} C A =
       let X = in_ring C in
       let Y = in_ring A in
@@ -185,7 +192,8 @@ module _ {F : Field} (L : IsField F) where
   ArePolynomials-negation (c ∷ cs) A = ArePolynomials-cons (IsPolynomial-negation L (ArePolynomials-head A)) (ArePolynomials-negation cs (ArePolynomials-tail A))
 
   -- The row of a remainder, from the rows of the members and of the dividend.
-  pub IsRow-remainder : {key : List ℕ → List ℕ} → IsMonomialOrder key → (G : List Sugared) → ArePolynomials F (polynomials_of G) → All (λ g. g ≢ empty) (polynomials_of G) → {h : Sugared} {last : Division}
+  pub IsRow-remainder : {key : List ℕ → List ℕ} → IsMonomialOrder key → (G : List Sugared) → ArePolynomials F (polynomials_of G) → All (λ g. g ≢ empty) (polynomials_of G)
+      → {h : Sugared} {last : Division}
       → IsPolynomial F h.polynomial → IsDivision F key G h last → {N : List Polynomial} → ArePolynomials F N → (rows : List (List Polynomial)) {row : List Polynomial}
       → AreRows F N (polynomials_of G) rows → IsRow F N h.polynomial row → IsRow F N last.remainder (add_multiples F (map (negation F) last.quotients) rows row)
   unfolding difference

@@ -61,7 +61,8 @@ same_pair x i y j e = go (x == i) (y == j) refl refl e
 pub zero_from_test : (n : ℕ) → (n == 0) ≡ true → n ≡ 0
 zero_from_test n e = grind (arith, nat_tests)
 
-still_pending : (pairs : List (ℕ × ℕ)) (i j x y : ℕ) → Contains pairs (x, y) → ((x ≡ i) × (y ≡ j)) ⊎ Contains (filter (λ other. not (other.0 == i && other.1 == j)) pairs) (x, y)
+still_pending : (pairs : List (ℕ × ℕ)) (i j x y : ℕ) → Contains pairs (x, y)
+    → ((x ≡ i) × (y ≡ j)) ⊎ Contains (filter (λ other. not (other.0 == i && other.1 == j)) pairs) (x, y)
 still_pending pairs i j x y c = go (x == i && y == j) refl
   where
     go : (t : Bool) → (x == i && y == j) ≡ t → ((x ≡ i) × (y ≡ j)) ⊎ Contains (filter (λ other. not (other.0 == i && other.1 == j)) pairs) (x, y)
@@ -190,7 +191,8 @@ module _ {key : List ℕ → List ℕ} (K : IsMonomialOrder key) {F : Field} (L 
     lead k = lead_at K (member k).is_polynomial
 
     -- A pair with coprime leads is settled.
-    coprime_settled : (i j : ℕ) → i < length kept.over.list → j < length kept.over.list → has_coprime_leads key s.members (i, j) ≡ true → buchberger.SettledAt P kept.over.list i j
+    coprime_settled : (i j : ℕ) → i < length kept.over.list → j < length kept.over.list → has_coprime_leads key s.members (i, j) ≡ true
+        → buchberger.SettledAt P kept.over.list i j
     unfolding ordered_polynomials polynomials member lead lead_at has_coprime_leads
     coprime_settled i j l k h = record {
       pair = Settled-coprime P (in_members i l) (in_members j k) (member_monic i l) (member_monic j k)
@@ -205,9 +207,11 @@ module _ {key : List ℕ → List ℕ} (K : IsMonomialOrder key) {F : Field} (L 
       is_exponents = IsExponents-minus (common_multiple (lead i) (lead j)).is_exponents (lead k).is_exponents;
     }
 
-    pub factor_times : (i j k : ℕ) → order.Divides monomials (lead k) (common_multiple (lead i) (lead j)) → times (factor i j k) (lead k) ≡ common_multiple (lead i) (lead j)
+    pub factor_times : (i j k : ℕ) → order.Divides monomials (lead k) (common_multiple (lead i) (lead j))
+        → times (factor i j k) (lead k) ≡ common_multiple (lead i) (lead j)
     unfolding factor times
-    factor_times i j k d = exponents_equal _ _ (plus_comm _ _ ∙ plus-minus (lead k).is_exponents (common_multiple (lead i) (lead j)).is_exponents (divides-from_Divides d))
+    factor_times i j k d = exponents_equal _ _ (plus_comm _ _
+        ∙ plus-minus (lead k).is_exponents (common_multiple (lead i) (lead j)).is_exponents (divides-from_Divides d))
 
     -- The difference whose division treats the pair.
     unfoldable pub s_over : ℕ → ℕ → PolynomialOver F
@@ -251,7 +255,8 @@ module _ {key : List ℕ → List ℕ} (K : IsMonomialOrder key) {F : Field} (L 
         }
 
     -- Its remainder is in the ideal.
-    treated-Member : (i j : ℕ) (d : Division) (t : Treated i j d) → i < length kept.over.list → j < length kept.over.list → ring_ideal.Member P.ring kept.over.list t.state.remainder
+    treated-Member : (i j : ℕ) (d : Division) (t : Treated i j d) → i < length kept.over.list → j < length kept.over.list
+        → ring_ideal.Member P.ring kept.over.list t.state.remainder
     treated-Member i j d t l k =
         ideal_laws.Member-same (difference_back P.ring (s_over i j) t.state.remainder)
         (ideal_laws.Member-subtract (s_over-Member i j l k) (division_remainder P t.division).difference)
@@ -308,7 +313,8 @@ module _ {key : List ℕ → List ℕ} (K : IsMonomialOrder key) {F : Field} (L 
       append_kept = record {
         over = record {
           list = grown;
-          are = map-append (λ f. f.map) kept.over.list (new ∷ []) ∙ ap₂ (λ xs x. xs ++ (x ∷ [])) kept.over.are (monic_over-map t.state.remainder n ∙ ap (made_monic F key) t.remainder_is)
+          are = map-append (λ f. f.map) kept.over.list (new ∷ [])
+              ∙ ap₂ (λ xs x. xs ++ (x ∷ [])) kept.over.are (monic_over-map t.state.remainder n ∙ ap (made_monic F key) t.remainder_is)
               ∙ sym (map-append (λ g. g.polynomial) s.members (monic_member F key (record { polynomial = d.remainder; sugar = d.sugar }) ∷ []));
         };
         monic = All-append (λ g. lead_coefficient key g.map ≡ 1) kept.over.list (new ∷ []) kept.monic
@@ -328,7 +334,8 @@ module _ {key : List ℕ → List ℕ} (K : IsMonomialOrder key) {F : Field} (L 
         ];
       }
 
-    settled_at_zero : (i j : ℕ) → i < length kept.over.list → j < length kept.over.list → (d : Division) (t : Treated i j d) → t.state.remainder ≡ (polynomial_ring L).zero → buchberger.SettledAt P kept.over.list i j
+    settled_at_zero : (i j : ℕ) → i < length kept.over.list → j < length kept.over.list → (d : Division) (t : Treated i j d)
+        → t.state.remainder ≡ (polynomial_ring L).zero → buchberger.SettledAt P kept.over.list i j
     unfolding member ordered_polynomials polynomials
     settled_at_zero i j l k d t z = record { pair = treated-settled i j d t l k (Contains kept.over.list) (λ g c. c) (buchberger.vanishes z) }
 
@@ -439,7 +446,8 @@ module _ {key : List ℕ → List ℕ} (K : IsMonomialOrder key) {F : Field} (L 
   pub IsRun-polynomials : {M : List Polynomial} → ArePolynomials F M → {turns : ℕ} {s : Run} → IsRun F key M turns s → ArePolynomials F (polynomials_of s.members)
   IsRun-polynomials A r = ArePolynomials-InRing (IsRun-IsKept (in_ring A) r).over
 
-  pub IsRun-monic : {M : List Polynomial} → ArePolynomials F M → {turns : ℕ} {s : Run} → IsRun F key M turns s → All (λ g. lead_coefficient key g ≡ 1) (polynomials_of s.members)
+  pub IsRun-monic : {M : List Polynomial} → ArePolynomials F M → {turns : ℕ} {s : Run} → IsRun F key M turns s
+      → All (λ g. lead_coefficient key g ≡ 1) (polynomials_of s.members)
   IsRun-monic A r =
       let kept = IsRun-IsKept (in_ring A) r in
       subst (All (λ g. lead_coefficient key g ≡ 1)) kept.over.are (All-map (λ g. lead_coefficient key g ≡ 1) (λ g. g.map) kept.over.list kept.monic)

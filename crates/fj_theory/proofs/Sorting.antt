@@ -36,7 +36,8 @@ module _ (key : List ℕ → List ℕ) where
   place_has g [] w (inr c) = absurd (contains_nil w c)
   place_has g (h ∷ more) w c = go (is_gt (compare_by key (lead_exponents key g.polynomial) (lead_exponents key h.polynomial))) (place_has g more w) c
     where
-      go : (t : Bool) → ((g ≡ w) ⊎ Contains more w → Contains (place_by_lead key g more) w) → (g ≡ w) ⊎ Contains (h ∷ more) w → Contains (cond t (h ∷ place_by_lead key g more) (g ∷ (h ∷ more))) w
+      go : (t : Bool) → ((g ≡ w) ⊎ Contains more w → Contains (place_by_lead key g more) w) → (g ≡ w) ⊎ Contains (h ∷ more) w
+          → Contains (cond t (h ∷ place_by_lead key g more) (g ∷ (h ∷ more))) w
       go true rest (inl e) = contains_tail h (place_by_lead key g more) w (rest (inl e))
       go true rest (inr c) = elim (contains_cons h more w c) [
         | inl e ↦ subst (Contains (h ∷ place_by_lead key g more)) e (contains_head h (place_by_lead key g more))
@@ -56,7 +57,8 @@ module _ (key : List ℕ → List ℕ) where
 
   -- Neither lead divides the other.
   abbrev pub Apart : Sugared → Sugared → Type 0
-  Apart g h = (divides (lead_exponents key g.polynomial) (lead_exponents key h.polynomial) ≡ false) × (divides (lead_exponents key h.polynomial) (lead_exponents key g.polynomial) ≡ false)
+  Apart g h = (divides (lead_exponents key g.polynomial) (lead_exponents key h.polynomial) ≡ false)
+      × (divides (lead_exponents key h.polynomial) (lead_exponents key g.polynomial) ≡ false)
 
   -- The leads rise, and neither divides the other.
   abbrev pub Rises : Sugared → Sugared → Type 0
@@ -69,12 +71,14 @@ module _ {key : List ℕ → List ℕ} (K : IsMonomialOrder key) where
   reversed : (o r : Ordering) → o ≡ ordering_reverse r → r ≡ Greater → o ≡ Less
   reversed o r e h = e ∙ ap ordering_reverse h
 
-  not_equal : (g h : Sugared) → HasExponents key g → HasExponents key h → Apart key g h → compare_by key (lead_exponents key g.polynomial) (lead_exponents key h.polynomial) ≡ Equal → ⊥
+  not_equal : (g h : Sugared) → HasExponents key g → HasExponents key h → Apart key g h
+      → compare_by key (lead_exponents key g.polynomial) (lead_exponents key h.polynomial) ≡ Equal → ⊥
   not_equal g h a b r e =
       let same = compare_by_exact K a b e in
       true≢false (sym (divides_refl (lead_exponents key g.polynomial)) ∙ ap (divides (lead_exponents key g.polynomial)) same ∙ r.0)
 
-  place_rises : (g : Sugared) (G : List Sugared) → HasExponents key g → All (HasExponents key) G → All (Apart key g) G → AllPairs (Rises key) G → AllPairs (Rises key) (place_by_lead key g G)
+  place_rises : (g : Sugared) (G : List Sugared) → HasExponents key g → All (HasExponents key) G → All (Apart key g) G → AllPairs (Rises key) G
+      → AllPairs (Rises key) (place_by_lead key g G)
   unfolding place_by_lead
   place_rises g [] a all apart rises = AllPairs-cons (Rises key) g [] (All-nil (Rises key g)) rises
   place_rises g (h ∷ more) a all apart rises =

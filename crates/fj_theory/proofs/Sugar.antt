@@ -71,7 +71,8 @@ module _ {F : Field} (L : IsField F) where
         (bounded_map (monic_over K L (over A)) n
         (Supported-multiple P.polynomials _ monomials.one (λ a h. let e = total-plus_exponents monomials.one.is_exponents a.is_exponents in omega (arith, e, h, total_origin)) (bounded_over (over A) n b)))
 
-    treat_within : (s : Run) → AreWithinSugars s.members → (p : ℕ × ℕ) (d : Division) → IsPolynomial F d.remainder → DegreeAtMost d.sugar d.remainder → AreWithinSugars (treat_pair F key s p d).members
+    treat_within : (s : Run) → AreWithinSugars s.members → (p : ℕ × ℕ) (d : Division) → IsPolynomial F d.remainder → DegreeAtMost d.sugar d.remainder
+        → AreWithinSugars (treat_pair F key s p d).members
     unfolding treat_pair drop_pair append_member monic_member
     treat_within s within p d A b = go (len d.remainder == 0) refl
       where
@@ -83,7 +84,8 @@ module _ {F : Field} (L : IsField F) where
         go false e =
             All-append (λ g. DegreeAtMost g.sugar g.polynomial) s.members (new ∷ []) within
             (All-cons (λ g. DegreeAtMost g.sugar g.polynomial) new []
-            (DegreeAtMost-made_monic A d.sugar (λ z. true≢false (sym (ap (λ m. m == 0) (ap len z ∙ len-empty (slice_cmp nat_cmp) ℕ)) ∙ e)) b) (All-nil (λ g. DegreeAtMost g.sugar g.polynomial)))
+            (DegreeAtMost-made_monic A d.sugar (λ z. true≢false (sym (ap (λ m. m == 0) (ap len z ∙ len-empty (slice_cmp nat_cmp) ℕ))
+            ∙ e)) b) (All-nil (λ g. DegreeAtMost g.sugar g.polynomial)))
 
     module _ (M : List (PolynomialOver F)) (s : Run) (kept : IsKept K L M s) (within : AreWithinSugars s.members) where
       long : length kept.over.list ≡ length s.members
@@ -118,7 +120,8 @@ module _ {F : Field} (L : IsField F) where
       factor_total i j n d = sym (degree_times (factor K L M s kept i j n) (lead K L M s kept n)) ∙ ap degree_of (factor_times K L M s kept i j n d)
 
       -- A multiple of a member by its factor in the S-polynomial.
-      multiple_bound : (i j n : ℕ) → n < length s.members → order.Divides monomials (lead K L M s kept n) (common_multiple (lead K L M s kept i) (lead K L M s kept j)) → (sugar : ℕ)
+      multiple_bound : (i j n : ℕ) → n < length s.members → order.Divides monomials (lead K L M s kept n) (common_multiple (lead K L M s kept i) (lead K L M s kept j))
+          → (sugar : ℕ)
           → ((member_at s.members n).sugar - total (lead_of key s.members n)) + total (pair_multiple key s.members (i, j)) ≤ sugar
           → ring_sugar.DegreeAtMost (polynomials L) degree_of sugar ((polynomials L).ring.mul ((polynomials L).term (polynomials L).field.ring.one (unfold polynomials in factor K L M s kept i j n)) (member K L M s kept n))
       unfolding polynomials
@@ -132,7 +135,8 @@ module _ {F : Field} (L : IsField F) where
           (bounded_over (member K L M s kept n) (member_at s.members n).sugar (member_bound n h))
 
       -- The sugar of the S-polynomial bounds it.
-      pub s_polynomial-DegreeAtMost : (i j : ℕ) → i < length s.members → j < length s.members → DegreeAtMost (s_polynomial F key s.members (i, j)).sugar (s_polynomial F key s.members (i, j)).polynomial
+      pub s_polynomial-DegreeAtMost : (i j : ℕ) → i < length s.members → j < length s.members
+          → DegreeAtMost (s_polynomial F key s.members (i, j)).sugar (s_polynomial F key s.members (i, j)).polynomial
       unfolding s_polynomial s_over ordered_polynomials polynomials
       s_polynomial-DegreeAtMost i j l k =
           let least = common_multiple-is_least (lead K L M s kept i) (lead K L M s kept j) in
@@ -142,7 +146,8 @@ module _ {F : Field} (L : IsField F) where
           (Supported-subtract (polynomials L) (multiple_bound i j i l least.left sugar (omega arith)) (multiple_bound i j j k least.right sugar (omega arith))))
 
       -- The sugar at the end of the division bounds the remainder.
-      remainder_bound : (i j : ℕ) → i < length s.members → j < length s.members → (d : Division) → IsDivision F key s.members (s_polynomial F key s.members (i, j)) d → DegreeAtMost d.sugar d.remainder
+      remainder_bound : (i j : ℕ) → i < length s.members → j < length s.members → (d : Division) → IsDivision F key s.members (s_polynomial F key s.members (i, j)) d
+          → DegreeAtMost d.sugar d.remainder
       remainder_bound i j l k d D =
           (IsWithinSugar-StepsTo K L s.members kept.over (nonzero K L M s kept) (s_polynomial F key s.members (i, j)) (s_polynomial-IsPolynomial K L M s kept i j) d
           at_place (s_polynomial-DegreeAtMost i j l k) D.states D.steps).remainder
@@ -171,7 +176,8 @@ module _ {F : Field} (L : IsField F) where
         (All-from_elements (λ f. DegreeAtMost (given f).sugar (made_monic F key f)) (filter (λ f. not (len f == 0)) (maps X.list))
         (λ f c. let both = contains_filter (λ f. not (len f == 0)) (maps X.list) f c in
         DegreeAtMost-made_monic (All-contains (IsPolynomial F) (maps X.list) f (ArePolynomials-maps X.list).each both.0) (given f).sugar
-        (λ z. true≢false (sym both.1 ∙ ap (λ m. not (m == 0)) (ap len z ∙ len-empty (slice_cmp nat_cmp) ℕ))) (given-DegreeAtMost (All-contains (IsPolynomial F) (maps X.list) f (ArePolynomials-maps X.list).each both.0))))
+        (λ z. true≢false (sym both.1 ∙ ap (λ m. not (m == 0)) (ap len z
+        ∙ len-empty (slice_cmp nat_cmp) ℕ))) (given-DegreeAtMost (All-contains (IsPolynomial F) (maps X.list) f (ArePolynomials-maps X.list).each both.0))))
 
     IsWithinKept : List (PolynomialOver F) → Run → Type 0
     IsWithinKept M s = IsKept K L M s × AreWithinSugars s.members
@@ -185,7 +191,8 @@ module _ {F : Field} (L : IsField F) where
         (subst (λ m. StepsTo (IsTurn F key) (run_start F key m) r.states s) (sym X.are) r.steps) (start_kept K L X.list, first_within X)).1
 
 -- The sugar bounds each state of a division.
-pub StepsTo-IsWithinSugar : {key : List ℕ → List ℕ} (K : IsMonomialOrder key) {F : Field} (L : IsField F) (G : List Sugared) → ArePolynomials F (polynomials_of G) → All (λ g. g ≢ empty) (polynomials_of G)
+pub StepsTo-IsWithinSugar : {key : List ℕ → List ℕ} (K : IsMonomialOrder key) {F : Field} (L : IsField F) (G : List Sugared) → ArePolynomials F (polynomials_of G)
+    → All (λ g. g ≢ empty) (polynomials_of G)
     → AreWithinSugars G → (h : Sugared) → IsPolynomial F h.polynomial → DegreeAtMost h.sugar h.polynomial → (states : List Division) (last : Division)
     → StepsTo (IsDivisionStep F key G) (division_start G h) states last → IsWithinSugar G last
 unfolding member_at

@@ -102,11 +102,13 @@ module _ {key : List ℕ → List ℕ} where
     no_replacement e t h = let n : 0 ≡ suc (length h.rest) = ap length (sym e ∙ h.first) in absurd (omega (arith, n))
 
     -- No replacement is high.
-    high_replacement : {s : Replacing} {member : Sugared} {rest : List Sugared} → s.rest ≡ member ∷ rest → IsHighDivision F key s.replaced member → (t : Replacing) → IsReplacement F key s t → ⊥
+    high_replacement : {s : Replacing} {member : Sugared} {rest : List Sugared} → s.rest ≡ member ∷ rest → IsHighDivision F key s.replaced member → (t : Replacing)
+        → IsReplacement F key s t → ⊥
     high_replacement {s} {member} {rest} e u t h =
         IsLowDivision-IsHighDivision h.division (subst (IsHighDivision F key s.replaced) (head_same member h.member rest h.rest (sym e ∙ h.first)) u)
 
-    IsReplacing-unique : (G basis other : List Sugared) → IsReplacing F key G (record { replaced = basis; rest = [] }) → IsReplacing F key G (record { replaced = other; rest = [] }) → basis ≡ other
+    IsReplacing-unique : (G basis other : List Sugared) → IsReplacing F key G (record { replaced = basis; rest = [] })
+        → IsReplacing F key G (record { replaced = other; rest = [] }) → basis ≡ other
     IsReplacing-unique G basis other h k =
         ap (λ s. s.replaced) (StepsTo-end (IsReplacement F key) IsReplacement-unique h.states k.states _ _ _ h.steps k.steps (no_replacement refl) (no_replacement refl))
 
