@@ -1,5 +1,5 @@
 -- Division of polynomials is that of the abstract theory: its identity, its remainder, and what its sugar bounds.
-use Rattle.std.proofs.Common.{◌≡◌, ◌≢◌, inl, inr, ◌↔◌, ℕ, zero, suc, ◌+◌, ◌<◌, ◌≤◌, max, Bool, true, false, cond, IsTrue, List, [], ◌∷◌, length, get_or, set, replicate, map, All, Contains, Option, Some, None, true≢false, refl, sym, ap, ◌∙◌, subst, arith, ap₂}
+use Rattle.std.proofs.Common.{◌≡◌, ◌≢◌, inl, inr, ◌↔◌, ℕ, zero, suc, ◌+◌, ◌<◌, ◌≤◌, max, Bool, true, false, cond, IsTrue, List, [], ◌∷◌, length, get_or, set, replicate, map, All, Contains, Option, Some, None, true≢false, refl, sym, ap, ◌∙◌, subst, arith, ap₂, Less, subst₂}
 use Rattle.std.specs.Option.{option_map}
 use Rattle.std.specs.FinMap.{empty}
 use Rattle.std.proofs.lemmas.Option.{none-some, same_Some}
@@ -16,7 +16,7 @@ use Rattle.fj_algebra.proofs.Ring.{ring_laws as ring_rules}
 use Rattle.fj_algebra.proofs.ExactDivision.{exact_division}
 use Rattle.fj_algebra.proofs.Division as ring_laws
 use Rattle.fj_algebra.proofs.Sugar as ring_sugar_laws
-use Rattle.fj_theory.specs.MonomialOrder.{IsMonomialOrder}
+use Rattle.fj_theory.specs.MonomialOrder.{IsMonomialOrder, compare_by}
 use Rattle.fj_theory.specs.Exponents.{IsExponents, total, minus, divides}
 use Rattle.fj_theory.specs.Polynomial.{Polynomial, IsPolynomial, coefficient, term, sum, product}
 use Rattle.fj_theory.specs.Ideal.{ArePolynomials, list_combination, Member}
@@ -30,9 +30,10 @@ use Rattle.fj_algebra.proofs.Lists.{All-map_back}
 use Rattle.fj_algebra.proofs.ReducedBasis as basis_laws
 use Rattle.fj_algebra.proofs.Pairs.{contains_map, contains_map_back}
 use Rattle.fj_theory.proofs.Exponents.{total-plus_exponents, plus_comm, plus-minus, IsExponents-minus}
+use Rattle.fj_algebra.proofs.Polynomial.{under_without}
 use Rattle.fj_theory.proofs.Field.{zero_below, Element, element_equal, rank_mul}
 use Rattle.fj_theory.proofs.PolynomialRing.{PolynomialOver, over_equal, polynomial_ring, map_zero, map_add, map_neg, map_mul}
-use Rattle.fj_theory.proofs.OrderedPolynomials.{Exponents, exponents_equal, times, monomials, scalars, coefficient_at, term_at, polynomials, ordered_polynomials}
+use Rattle.fj_theory.proofs.OrderedPolynomials.{Exponents, exponents_equal, times, monomials, scalars, coefficient_at, term_at, polynomials, ordered_polynomials, monomial_order}
 use Rattle.fj_theory.proofs.IdealBridge.{over, maps, InRing, in_ring, ArePolynomials-maps, list_combination_map, Member_map, Member_over}
 use Rattle.fj_theory.proofs.Lead.{lead_at, IsLead-from_lead, lead_from_IsLead, IsExponents-lead, coefficient-lead, lead_coefficient-below, lead_coefficient-nonzero, divides-from_Divides}
 use Rattle.fj_theory.proofs.ReducedBasis.{positive, positive_back, exponents_of, IsReducible-from_LeadDivides, IsReducedBasis_over}
@@ -286,6 +287,26 @@ module _ {key : List ℕ → List ℕ} (K : IsMonomialOrder key) {F : Field} (L 
           → length s.quotients ≡ length X.list → ring_sugar.IsWithinSugar P.polynomials (λ a. total a.list) (map (λ g. g.sugar) G) sugar s
           → ring_sugar.IsWithinSugar P.polynomials (λ a. total a.list) (map (λ g. g.sugar) G) last.sugar state
 
+    -- After a step the dividend's lead is lower.
+    step_falls : (s : State) (sugar : ℕ) (t : Division) → StepOver G X.list s sugar t → t.dividend ≢ empty
+        → compare_by key (lead_exponents key t.dividend) (lead_exponents key s.dividend.map) ≡ Less
+    unfolding forget ordered_polynomials polynomials monomial_order lead_at
+    step_falls s sugar t h n = go h
+      where
+        below : (u : PolynomialOver F) (a : Exponents) → t.dividend ≡ u.map → abstract.IsLead P s.dividend a → abstract.Supported P.polynomials (λ e. order.IsBelow (monomial_order K) e a) u
+            → compare_by key (lead_exponents key t.dividend) (lead_exponents key s.dividend.map) ≡ Less
+        below u a e l w =
+            subst₂ (λ p b. compare_by key (lead_exponents key p) b ≡ Less) (sym e) (ap (λ b. b.list) (lead_from_IsLead K L l))
+            (w.within (lead_at K u.is_polynomial) (IsLead-from_lead K L u (λ z. n (e ∙ z))).nonzero).is_less
+
+        go : StepOver G X.list s sugar t → compare_by key (lead_exponents key t.dividend) (lead_exponents key s.dividend.map) ≡ Less
+        go (cancels u c e) =
+            below u.dividend c.lead (ap (λ d. d.dividend) e) c.is_lead
+            (subst (abstract.Supported P.polynomials (λ e. order.IsBelow (monomial_order K) e c.lead)) (sym c.dividend) (ring_laws.under_cancel P c.is_lead c.is_divisor_lead c.height c.cancels))
+        go (moves u m e) =
+            below u.dividend m.lead (ap (λ d. d.dividend) e) m.is_lead
+            (subst (abstract.Supported P.polynomials (λ e. order.IsBelow (monomial_order K) e m.lead)) (sym m.dividend) (under_without P m.is_lead))
+
     sugar_at : (k : ℕ) → get_or (map (λ g. g.sugar) G) k 0 ≡ (member_at G k).sugar
     unfolding member_at
     sugar_at k = get_or-map (λ g. g.sugar) G k (record { polynomial = empty; sugar = 0 })
@@ -380,6 +401,22 @@ module _ {key : List ℕ → List ℕ} (K : IsMonomialOrder key) {F : Field} (L 
   module _ (G : List Sugared) (A : ArePolynomials F (polynomials_of G)) (nonzero : All (λ g. g ≢ empty) (polynomials_of G)) where
     nonzero_over : (X : InRing F (polynomials_of G)) → All (λ g. g.map ≢ empty) X.list
     nonzero_over X = All-map_back (λ g. g ≢ empty) (λ g. g.map) X.list (subst (All (λ g. g ≢ empty)) (sym X.are) nonzero)
+
+    -- The lead of the dividend falls with each step, so a division ends.
+    pub IsDivisionStep-falls : {s t : Division} → IsPolynomial F s.dividend → IsDivisionStep F key G s t → t.dividend ≢ empty
+        → compare_by key (lead_exponents key t.dividend) (lead_exponents key s.dividend) ≡ Less
+    unfolding forget step_by cancel_lead move_lead
+    IsDivisionStep-falls {s} {t} A' h n =
+        let X = in_ring A in
+        let state : State = record { dividend = over A'; quotients = []; remainder = (polynomial_ring L).zero } in
+        let next : Division = step_by F key G (first_divisor key G (lead_exponents key s.dividend)) (forget state s.sugar) in
+        let same : t.dividend ≡ next.dividend = ap (λ d. d.dividend) h.next ∙ by (first_divisor key G (lead_exponents key s.dividend)) in
+        subst (λ f. compare_by key (lead_exponents key f) (lead_exponents key s.dividend) ≡ Less) (sym same)
+        (step_falls G X (nonzero_over X) state s.sugar next (step_over G X (nonzero_over X) state s.sugar next (record { nonzero = h.nonzero; next = refl })) (λ z. n (same ∙ z)))
+      where
+        by : (o : Option ℕ) → (step_by F key G o s).dividend ≡ (step_by F key G o (forget (record { dividend = over A'; quotients = []; remainder = (polynomial_ring L).zero }) s.sugar)).dividend
+        by (Some k) = refl
+        by None = refl
 
     module _ {h : Sugared} (H : IsPolynomial F h.polynomial) {last : Division} (D : IsDivision F key G h last) where
       ring : InRing F (polynomials_of G)
