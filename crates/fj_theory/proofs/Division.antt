@@ -293,7 +293,8 @@ module _ {key : List ℕ → List ℕ} (K : IsMonomialOrder key) {F : Field} (L 
     unfolding forget ordered_polynomials polynomials monomial_order lead_at
     step_falls s sugar t h n = go h
       where
-        below : (u : PolynomialOver F) (a : Exponents) → t.dividend ≡ u.map → abstract.IsLead P s.dividend a → abstract.Supported P.polynomials (λ e. order.IsBelow (monomial_order K) e a) u
+        below : (u : PolynomialOver F) (a : Exponents) → t.dividend ≡ u.map → abstract.IsLead P s.dividend a
+            → abstract.Supported P.polynomials (λ e. order.IsBelow (monomial_order K) e a) u
             → compare_by key (lead_exponents key t.dividend) (lead_exponents key s.dividend.map) ≡ Less
         below u a e l w =
             subst₂ (λ p b. compare_by key (lead_exponents key p) b ≡ Less) (sym e) (ap (λ b. b.list) (lead_from_IsLead K L l))
@@ -306,6 +307,11 @@ module _ {key : List ℕ → List ℕ} (K : IsMonomialOrder key) {F : Field} (L 
         go (moves u m e) =
             below u.dividend m.lead (ap (λ d. d.dividend) e) m.is_lead
             (subst (abstract.Supported P.polynomials (λ e. order.IsBelow (monomial_order K) e m.lead)) (sym m.dividend) (under_without P m.is_lead))
+
+    step_polynomial : (s : State) (sugar : ℕ) (t : Division) → StepOver G X.list s sugar t → IsPolynomial F t.dividend
+    unfolding forget
+    step_polynomial s sugar t (cancels u c e) = subst (λ d. IsPolynomial F d.dividend) (sym e) u.dividend.is_polynomial
+    step_polynomial s sugar t (moves u m e) = subst (λ d. IsPolynomial F d.dividend) (sym e) u.dividend.is_polynomial
 
     sugar_at : (k : ℕ) → get_or (map (λ g. g.sugar) G) k 0 ≡ (member_at G k).sugar
     unfolding member_at
@@ -402,21 +408,36 @@ module _ {key : List ℕ → List ℕ} (K : IsMonomialOrder key) {F : Field} (L 
     nonzero_over : (X : InRing F (polynomials_of G)) → All (λ g. g.map ≢ empty) X.list
     nonzero_over X = All-map_back (λ g. g ≢ empty) (λ g. g.map) X.list (subst (All (λ g. g ≢ empty)) (sym X.are) nonzero)
 
-    -- The lead of the dividend falls with each step, so a division ends.
-    pub IsDivisionStep-falls : {s t : Division} → IsPolynomial F s.dividend → IsDivisionStep F key G s t → t.dividend ≢ empty
-        → compare_by key (lead_exponents key t.dividend) (lead_exponents key s.dividend) ≡ Less
-    unfolding forget step_by cancel_lead move_lead
-    IsDivisionStep-falls {s} {t} A' h n =
-        let X = in_ring A in
-        let state : State = record { dividend = over A'; quotients = []; remainder = (polynomial_ring L).zero } in
-        let next : Division = step_by F key G (first_divisor key G (lead_exponents key s.dividend)) (forget state s.sugar) in
-        let same : t.dividend ≡ next.dividend = ap (λ d. d.dividend) h.next ∙ by (first_divisor key G (lead_exponents key s.dividend)) in
-        subst (λ f. compare_by key (lead_exponents key f) (lead_exponents key s.dividend) ≡ Less) (sym same)
-        (step_falls G X (nonzero_over X) state s.sugar next (step_over G X (nonzero_over X) state s.sugar next (record { nonzero = h.nonzero; next = refl })) (λ z. n (same ∙ z)))
-      where
-        by : (o : Option ℕ) → (step_by F key G o s).dividend ≡ (step_by F key G o (forget (record { dividend = over A'; quotients = []; remainder = (polynomial_ring L).zero }) s.sugar)).dividend
-        by (Some k) = refl
-        by None = refl
+    -- A step from a polynomial, in the ring.
+    module _ {s t : Division} (A' : IsPolynomial F s.dividend) (h : IsDivisionStep F key G s t) where
+      state : State
+      state = record { dividend = over A'; quotients = []; remainder = (polynomial_ring L).zero }
+
+      next : Division
+      next = step_by F key G (first_divisor key G (lead_exponents key s.dividend)) (forget state s.sugar)
+
+      next_is : t.dividend ≡ next.dividend
+      unfolding forget step_by cancel_lead move_lead next state
+      next_is = ap (λ d. d.dividend) h.next ∙ by (first_divisor key G (lead_exponents key s.dividend))
+        where
+          by : (o : Option ℕ) → (step_by F key G o s).dividend ≡ (step_by F key G o (forget state s.sugar)).dividend
+          by (Some k) = refl
+          by None = refl
+
+      next_over : StepOver G (in_ring A).list state s.sugar next
+      unfolding forget next state
+      next_over = step_over G (in_ring A) (nonzero_over (in_ring A)) state s.sugar next (record { nonzero = h.nonzero; next = refl })
+
+      -- The dividend stays a polynomial.
+      pub IsDivisionStep-polynomial : IsPolynomial F t.dividend
+      IsDivisionStep-polynomial = subst (IsPolynomial F) (sym next_is) (step_polynomial G (in_ring A) (nonzero_over (in_ring A)) state s.sugar next next_over)
+
+      -- The lead of the dividend falls with each step, so a division ends.
+      pub IsDivisionStep-falls : t.dividend ≢ empty → compare_by key (lead_exponents key t.dividend) (lead_exponents key s.dividend) ≡ Less
+      unfolding state
+      IsDivisionStep-falls n =
+          subst (λ f. compare_by key (lead_exponents key f) (lead_exponents key s.dividend) ≡ Less) (sym next_is)
+          (step_falls G (in_ring A) (nonzero_over (in_ring A)) state s.sugar next next_over (λ z. n (next_is ∙ z)))
 
     module _ {h : Sugared} (H : IsPolynomial F h.polynomial) {last : Division} (D : IsDivision F key G h last) where
       ring : InRing F (polynomials_of G)

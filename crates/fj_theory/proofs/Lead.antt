@@ -99,6 +99,10 @@ module _ {key : List ℕ → List ℕ} (K : IsMonomialOrder key) {F : Field} whe
       | inr f ↦ f.there
     ]
 
+    -- No monomial above the lead has a coefficient.
+    pub above_lead : f ≢ empty → (b : List ℕ) → compare_by key (lead_exponents key f) b ≡ Less → coefficient f b ≡ 0
+    above_lead n b l = elim (lead_cases P) [ inl e ↦ absurd (n e) | inr f ↦ f.top b l ]
+
     pub lead_coefficient-below : 0 < F.size → lead_coefficient key f < F.size
     lead_coefficient-below h = subst (λ c. c < F.size) coefficient-lead (coefficient_below P h (lead_exponents key f))
 

@@ -52,3 +52,4 @@ pub mod Plain
 pub mod PlainProduct
 pub mod Certificate
 pub mod Rows
+pub mod DegreeOrder

@@ -24,3 +24,4 @@ pub mod PolynomialLaws
 pub mod Plain
 pub mod Certificate
 pub mod Rows
+pub mod DegreeOrder
