@@ -4,3 +4,5 @@ pub mod NonzeroEntries
 pub mod Entries
 pub mod Each
 pub mod Powers
+pub mod Distinct
+pub mod Directions

@@ -1,5 +1,5 @@
 -- The polynomial that a map from exponents to ranks holds: its coefficients, and what one more term makes of it.
-use Rattle.std.proofs.Common.{◌≡◌, ℕ, ◌+◌, ◌%◌, ◌<◌, Bool, true, false, cond, if◌then◌else◌, ◌&&◌, ◌||◌, ◌==◌, nat_lt, is_lt, ◌≤◌, List, [], ◌∷◌, ◌++◌, map, get_or, length, All, Option, Some, None, unwrap_or, nat_cmp, Contains, refl, sym, ap, ap₂, ◌∙◌, subst, arith, T}
+use Rattle.std.proofs.Common.{◌≡◌, ℕ, ◌+◌, ◌%◌, ◌<◌, Bool, true, false, cond, if◌then◌else◌, ◌&&◌, ◌==◌, nat_lt, is_lt, ◌≤◌, List, [], ◌∷◌, ◌++◌, map, get_or, All, Option, Some, None, unwrap_or, nat_cmp, Contains, refl, sym, ap, ap₂, ◌∙◌, subst, arith, T}
 use Rattle.std.specs.List.{list_any, AllByRecursion}
 use Rattle.std.specs.List.Sorted.{IsStrictlySortedBy}
 use Rattle.std.specs.Map.{lookup}
@@ -16,7 +16,7 @@ use Rattle.std.proofs.lemmas.List.Elements.{All-nil, All-cons, All-head, All-tai
 use Rattle.std.proofs.lemmas.Map.Keys.{sorted_head, sorted_tail}
 use Rattle.std.proofs.lemmas.Map.Entries.{btree_map_get_place}
 use Rattle.std.proofs.lemmas.Map.Lookups.{exact_bytes}
-use Rattle.fj_coeff.specs.Field.{Field, IsField, primes}
+use Rattle.fj_coeff.specs.Field.{IsField, primes}
 use Rattle.fj_coeff.specs.PrimeField.{prime_field}
 use Rattle.fj_coeff.specs.PrimeFieldLaws.{IsField-prime_field}
 use Rattle.fj_theory.specs.Polynomial.{Polynomial, IsPolynomial, coefficient, with_coefficients, support, sum, term}

@@ -3,3 +3,4 @@ pub mod Terms
 pub mod PlainCode
 pub mod Tallied
 pub mod Holds
+pub mod TermKey

@@ -1,5 +1,5 @@
 -- A plain polynomial as the value of a model.
-use Rattle.std.specs.Prelude.{◌≡◌, ℕ, List, refl}
+use Rattle.std.specs.Prelude.{◌≡◌, ℕ, List}
 use Rattle.std.specs.Coded.{Coded, coded_list, coded×, coded_ℕ}
 use base.Stored.{coded_via}
 use mathlib.Core.HLevel.{Σ_prop_path}

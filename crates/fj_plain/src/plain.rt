@@ -1,9 +1,13 @@
 ghost use Rattle.std.specs.Prelude.{◌≡◌, ◌≢◌, ◌<◌, ◌≤◌, ◌^◌, ◌↔◌, length, sum, slice_get, All, AllPairs, IfSome, IsSome, IsTrue, Some};
 ghost use Rattle.fj_theory.specs.Plain.{IsPlain, HasRanksBelow};
 ghost use Rattle.fj_theory.specs.Certificate.{IsResidue};
+ghost use Rattle.fj_theory.specs.MonomialOrder.{compare_by};
 ghost use Rattle.fj_plain.specs.Terms.{entry, entries};
+ghost use Rattle.fj_plain.specs.TermKey.{term_key};
 
-use crate::term::PlainTerm;
+use crate::order_name::OrderName;
+use crate::term::{PlainTerm, TOTAL_LIMIT};
+use std::cmp::Ordering;
 use std::marker::Model;
 
 /// A polynomial over a field GF(p) that isn't named here, as a list of terms in any order: no total is above 2^41, no
@@ -27,6 +31,22 @@ impl Model for PlainPoly {
 }
 
 impl PlainPoly {
+    /// The polynomial with these terms, in this order, whose ranks are those of coefficients in GF(p). `None` exactly
+    /// where a total is above 2^41, two terms have the same exponents, or a rank is 0 or at least p.
+    pub fn of(terms: Vec<PlainTerm>, p: u64) -> Option<PlainPoly>
+        ensures plain { IsSome result ↔ (IsPlain (entries terms.items) × All (λ t. t.rank < p) terms.items) }
+        ensures same { IfSome result (λ f. f.terms ≡ entries terms.items) }
+        ensures below { IfSome result (HasRanksBelow p) }
+    {
+        if !are_terms(&terms, p) {
+            return None;
+        }
+        if !are_distinct(&terms) {
+            return None;
+        }
+        Some(PlainPoly { terms })
+    }
+
     /// The number of terms.
     pub fn len(&self) -> usize
         ensures { result ≡ length self.now.terms }
@@ -65,4 +85,137 @@ fn are_below(terms: &[PlainTerm], p: u64) -> bool
     ensures { IsTrue result ↔ All (λ t. t.rank < p) terms.now }
 {
     terms.iter().all(|term| term.rank < p)
+}
+
+// Whether each total is at most 2^41, and each rank that of a coefficient in GF(p) that isn't zero.
+fn are_terms(terms: &[PlainTerm], p: u64) -> bool
+    ensures { IsTrue result ↔ All (λ t. (sum t.exps ≤ 2 ^ 41) × (0 < t.rank) × (t.rank < p)) terms.now }
+{
+    terms.iter().all(|term| is_term(term, p))
+}
+
+// Whether the total is at most 2^41, and the rank is that of a coefficient in GF(p) that isn't zero.
+fn is_term(term: &PlainTerm, p: u64) -> bool
+    ensures { IsTrue result ↔ ((sum term.now.exps ≤ 2 ^ 41) × (0 < term.now.rank) × (term.now.rank < p)) }
+{
+    let total: u128 = term.exps.iter().map(|k| u128::from(*k)).sum();
+    total <= u128::from(TOTAL_LIMIT) && term.rank > 0 && term.rank < p
+}
+
+// Whether no two terms have the same exponents. In a list that falls or rises in an order, neighbours are compared
+// alone.
+fn are_distinct(terms: &[PlainTerm]) -> bool
+    requires { All (λ t. sum t.exps ≤ 2 ^ 41) terms.now }
+    ensures { IsTrue result ↔ AllPairs (λ s t. s.exps ≢ t.exps) terms.now }
+{
+    falls_or_rises(OrderName::Grevlex, terms)
+        || falls_or_rises(OrderName::Lex, terms)
+        || falls_or_rises(OrderName::Grlex, terms)
+        || falls_or_rises(OrderName::Elim, terms)
+        || differ_pairwise(terms)
+}
+
+// Whether the exponents fall or rise strictly in an order, so that no two are the same.
+fn falls_or_rises(order: OrderName, terms: &[PlainTerm]) -> bool
+    requires { All (λ t. sum t.exps ≤ 2 ^ 41) terms.now }
+    ensures { IsTrue result → AllPairs (λ s t. s.exps ≢ t.exps) terms.now }
+{
+    if terms.len() < 2 {
+        return true;
+    }
+    let direction = compare(order, terms[0].exps, terms[1].exps);
+    if direction == Ordering::Equal {
+        return false;
+    }
+    for i in 1..terms.len() {
+        let last = terms[i - 1];
+        let next = terms[i];
+        if compare(order, last.exps, next.exps) != direction {
+            return false;
+        }
+    }
+    true
+}
+
+// How two exponent lists compare by their keys.
+fn compare(order: OrderName, a: [u64; 8], b: [u64; 8]) -> Ordering
+    requires first { sum a ≤ 2 ^ 41 }
+    requires second { sum b ≤ 2 ^ 41 }
+    ensures { result ≡ compare_by (term_key order) a b }
+{
+    key(order, a).cmp(&key(order, b))
+}
+
+// The key of an exponent list in an order.
+fn key(order: OrderName, exps: [u64; 8]) -> [u64; 9]
+    requires { sum exps ≤ 2 ^ 41 }
+    ensures { result ≡ term_key order exps }
+{
+    let total: u64 = exps.iter().sum();
+    let [a, b, c, d, e, f, g, h] = exps;
+    match order {
+        OrderName::Lex => [a, b, c, d, e, f, g, h, 0],
+        OrderName::Grlex => [total, a, b, c, d, e, f, g, h],
+        OrderName::Grevlex => [TOTAL_LIMIT - total, h, g, f, e, d, c, b, a],
+        OrderName::Elim => [u64::MAX - h, TOTAL_LIMIT - total, g, f, e, d, c, b, a],
+    }
+}
+
+// Whether no two terms have the same exponents, by comparing each two.
+fn differ_pairwise(terms: &[PlainTerm]) -> bool
+    ensures { IsTrue result ↔ AllPairs (λ s t. s.exps ≢ t.exps) terms.now }
+{
+    for (i, term) in terms.iter().enumerate() {
+        if !lacks_exponents(&terms[..i], term.exps) {
+            return false;
+        }
+    }
+    true
+}
+
+// Whether no term has these exponents.
+fn lacks_exponents(terms: &[PlainTerm], exps: [u64; 8]) -> bool
+    ensures { IsTrue result ↔ All (λ t. t.exps ≢ exps) terms.now }
+{
+    terms.iter().all(|term| term.exps != exps)
+}
+
+#[cfg(test)]
+mod tests {
+    use super::*;
+    use std::alloc::AllocError;
+
+    #[test]
+    fn terms_that_make_a_polynomial(rt: HostRuntime) -> Result<(), AllocError> {
+        let half = 1 << 40;
+        // The two exponents and the rank of a second term, beside x over GF(5), and whether the two make a polynomial.
+        for (x, y, rank, wanted) in [
+            (0, 1, 4, true),
+            (half, half, 1, true),
+            (half, half + 1, 1, false),
+            (u64::MAX, u64::MAX, 1, false),
+            (1, 0, 1, false),
+            (0, 1, 0, false),
+            (0, 1, 5, false),
+        ] {
+            let mut terms = Vec::new(rt.alloc());
+            terms.push(PlainTerm {
+                exps: [1, 0, 0, 0, 0, 0, 0, 0],
+                rank: 1,
+            })?;
+            terms.push(PlainTerm {
+                exps: [x, y, 0, 0, 0, 0, 0, 0],
+                rank,
+            })?;
+            match PlainPoly::of(terms, 5) {
+                Some(f) => {
+                    assert!(rt; wanted);
+                    assert_eq!(rt; f.len(), 2);
+                    assert_eq!(rt; f.get(1).rank, rank);
+                }
+                None => assert!(rt; !wanted),
+            }
+        }
+        Ok(())
+    }
 }

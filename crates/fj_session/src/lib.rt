@@ -5,9 +5,11 @@ mod answer;
 mod form;
 mod input;
 pub mod outside;
+mod program;
 mod scan;
 mod sum;
 mod term;
 mod text;
 
 pub use form::one_reading;
+pub use program::run;

@@ -1,6 +1,5 @@
-use Rattle.std.proofs.Common.{◌≡◌, ◌≤◌, ◌<◌, ◌^◌, List, Contains, length, zip, refl, sym, subst, ◌∙◌, arith}
+use Rattle.std.proofs.Common.{◌≤◌, ◌^◌, List, length, zip, refl, sym, subst, ◌∙◌, arith}
 use Rattle.std.proofs.lemmas.Bool.{true≢false}
-use Rattle.fj_coeff.specs.Field.{primes}
 use Rattle.fj_theory.specs.Plain.{PlainPolynomial, HasRanksBelow}
 use Rattle.fj_theory.specs.Certificate.{AllRanksBelow, HasParts}
 use Rattle.fj_plain.proofs.Powers.{prime_power_fits}

@@ -1,4 +1,4 @@
-use Rattle.std.proofs.Common.{◌≡◌, ◌≤◌, List, All, length, map, subst, sym, ap, ◌∙◌, arith}
+use Rattle.std.proofs.Common.{◌≡◌, ◌≤◌, List, length, map, subst, sym, ap, ◌∙◌, arith}
 use Rattle.std.proofs.lemmas.List.{length-map}
 use Rattle.fj_coeff.specs.PrimeField.{prime_field}
 use Rattle.fj_coeff.specs.PrimeFieldLaws.{IsField-prime_field}

@@ -3,7 +3,7 @@ use Rattle.std.proofs.lemmas.Bool.{true≢false}
 use Rattle.std.proofs.lemmas.List.{length-map}
 use Rattle.fj_coeff.specs.PrimeField.{prime_field}
 use Rattle.fj_coeff.specs.PrimeFieldLaws.{IsField-prime_field}
-use Rattle.fj_theory.specs.Polynomial.{Polynomial, IsPolynomial, sum, product, power, term, negation}
+use Rattle.fj_theory.specs.Polynomial.{Polynomial, IsPolynomial, sum, product, power, negation}
 use Rattle.fj_theory.specs.Plain.{PlainPolynomial, polynomial, HasRanksBelow}
 use Rattle.fj_theory.specs.Certificate.{combination, IsResidue}
 use Rattle.fj_theory.proofs.Polynomial.{IsPolynomial-empty}

@@ -1,4 +1,4 @@
-use Rattle.std.proofs.Common.{◌≡◌, ◌≤◌, true, false, length, IsTrue, refl, sym, ◌∙◌, arith}
+use Rattle.std.proofs.Common.{◌≤◌, length, refl, sym, ◌∙◌, arith}
 use Rattle.std.proofs.lemmas.Bool.{true≢false}
 use Rattle.fj_theory.specs.Plain.{HasRanksBelow}
 use Rattle.fj_plain.proofs.Each.{EachBefore-zero, EachBefore-more, All-from_EachBefore, All_at}

@@ -1,5 +1,5 @@
 use Rattle.std.proofs.Common.{◌≡◌, ◌<◌, ℕ, List, All, subst, sym, ap, ◌∙◌}
-use Rattle.fj_theory.specs.Plain.{PlainPolynomial, HasRanksBelow}
+use Rattle.fj_theory.specs.Plain.{PlainPolynomial}
 use Rattle.fj_plain.specs.Terms.{entries}
 use Rattle.fj_plain.proofs.Entries.{All-entries, All-entries_back}
 use Rattle.fj_plain.proofs.plain.PlainPoly.has_ranks_below.Goals as goal

@@ -1,9 +1,9 @@
-use Rattle.std.proofs.Common.{◌≡◌, ◌<◌, ◌≤◌, ◌*◌, ◌%◌, ◌∙◌, ap, ap₂, subst, sym, arith, drop, length}
+use Rattle.std.proofs.Common.{◌<◌, ◌≤◌, ◌*◌, ◌%◌, ◌∙◌, ap, sym, arith, length}
 use Rattle.std.proofs.lemmas.List.{drop_all}
 use Rattle.fj_coeff.specs.PrimeField.{prime_field}
 use Rattle.fj_coeff.specs.PrimeFieldLaws.{IsField-prime_field, prime_product_fits}
 use Rattle.fj_theory.specs.Exponents.{IsExponents, plus, times}
-use Rattle.fj_theory.specs.Polynomial.{IsPolynomial, sum, product, power, term}
+use Rattle.fj_theory.specs.Polynomial.{sum, product, power, term}
 use Rattle.fj_theory.specs.Plain.{polynomial}
 use Rattle.fj_theory.proofs.PolynomialRing.{sum_empty}
 use Rattle.fj_theory.proofs.Plain.{multiple, multiple-nil, multiple_more, rank_below_at}

@@ -1,9 +1,9 @@
-use Rattle.std.proofs.Common.{◌≡◌, ◌<◌, ◌∙◌, ap, arith, subst, sym}
+use Rattle.std.proofs.Common.{◌<◌, ◌∙◌, ap, arith, subst, sym}
 use Rattle.std.proofs.lemmas.Result.{on_ok_weaker}
 use Rattle.fj_coeff.specs.PrimeFieldLaws.{prime_bounds}
 use Rattle.fj_coeff.specs.PrimeField.{prime_field}
 use Rattle.fj_theory.specs.Polynomial.{IsPolynomial, sum, term}
-use Rattle.fj_plain.specs.Tallied.{rank_at, tallied}
+use Rattle.fj_plain.specs.Tallied.{rank_at}
 use Rattle.fj_plain.proofs.TalliedLemmas.{rank_at_below, tallied-add_rank}
 use Rattle.fj_plain.proofs.tally.Tally.add_term.Goals as goal
 

@@ -1,4 +1,4 @@
-use Rattle.std.proofs.Common.{◌≡◌, ◌∙◌, sym}
+use Rattle.std.proofs.Common.{◌∙◌, sym}
 use Rattle.fj_plain.proofs.TalliedLemmas.{tallied-zeros, zeros_from_tallied}
 use Rattle.fj_plain.proofs.tally.Tally.is_zero.Goals as goal
 

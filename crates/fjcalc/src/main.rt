@@ -1,0 +1,40 @@
+//! `fjcalc`: reads a session from standard input and answers it on standard output. What is written, and each status,
+//! is `fj_session::run`'s own; status 8 is main's, where the system doesn't give the words.
+#![tactic(auto)]
+
+use fj_session::outside::{StdSink, StdSource};
+use fj_session::run;
+use std::alloc::AllocError;
+use std::env::{self, Args};
+use std::io::ErrorKind;
+use std::process::ExitCode;
+
+/// Memory was wanting.
+const NO_MEMORY: u8 = 6;
+
+/// The system didn't give the words.
+const NO_WORDS: u8 = 8;
+
+/// Runs over the words behind the program's name, and answers the status.
+fn run_with(rt: &HostRuntime, args: Args) -> Result<u8, AllocError> {
+    let mut texts = Vec::new(rt.alloc());
+    for text in args.skip(1) {
+        texts.push(text)?;
+    }
+    let mut words = Vec::new(rt.alloc());
+    for text in &texts {
+        words.push(text.as_str())?;
+    }
+    let mut source = StdSource::new(rt.stdin());
+    let mut sink = StdSink::new(rt.stdout());
+    Ok(run(rt.alloc(), &words, &mut source, &mut sink))
+}
+
+fn main(rt: HostRuntime) -> ExitCode {
+    let status = match env::args(&rt) {
+        Ok(args) => run_with(&rt, args).unwrap_or(NO_MEMORY),
+        Err(e) if e.kind() == ErrorKind::OutOfMemory => NO_MEMORY,
+        Err(_) => NO_WORDS,
+    };
+    ExitCode::from(status)
+}
