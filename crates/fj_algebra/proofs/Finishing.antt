@@ -112,7 +112,7 @@ module _ {K M A : Type 0} (P : OrderedPolynomials K M A) where
           })
 
   -- A remainder by members whose leads don't divide the lead of m has this lead, and is monic where m is.
-  remainder_monic : {G : List A} {m r : A} {a : M} → AllMonic P (Contains G) → IsMonic P m a →
+  pub remainder_monic : {G : List A} {m r : A} {a : M} → AllMonic P (Contains G) → IsMonic P m a →
       ((g : A) (b : M) → Contains G g → IsLead P g b → Divides P.monomials b a → ⊥) → EndsIn P G m r → IsMonic P r a
   remainder_monic {G} {m} {r} {a} monic is apart ends =
       record { monic = at a (below_irrefl order) ∙ is.monic; top = λ b l. at b (λ k. below_irrefl order (below_trans order k l)) ∙ is.top b l }

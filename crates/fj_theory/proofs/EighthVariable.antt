@@ -123,3 +123,12 @@ grevlex_degree = record { lower = λ a b h. record { is_less = first_less _ _ _ 
   where
     whole : (a b : Exponents) → total a.list < total b.list → sum (take 8 a.list) < sum (take 8 b.list)
     whole a b h = let e = a.is_exponents.eight in let f = b.is_exponents.eight in rw (take_all 8 a.list (omega arith), take_all 8 b.list (omega arith)) h
+
+-- What the variable is on lists.
+pub eighth_exponent : (a : Exponents) → eighth.exponent a ≡ get_or a.list 7 0
+unfolding eighth exponent
+eighth_exponent a = refl
+
+pub eighth_list : eighth.variable.list ≡ set origin 7 1
+unfolding eighth variable_exponents power_list origin
+eighth_list = refl

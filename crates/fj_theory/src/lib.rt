@@ -3,5 +3,6 @@
 //! source, and `proofs/` the laws that the crates above cite. `docs/DEFINITIONS.md` has the definitions in words.
 #![tactic(auto)]
 
+pub mod bases;
 pub mod laws;
 pub mod polynomials;
