@@ -4,3 +4,5 @@ pub mod Merge
 pub mod View
 pub mod Coefficients
 pub mod Push
+pub mod Limits
+pub mod Changed
