@@ -191,3 +191,9 @@ low_list {F} L ts terms within = by (degree (polynomial_of ts)) refl
         let top = degree_attained L P d in
         let at = find_All (λ t. total t.0 ≤ 2 ^ 40) ts top.0 _ within (sym (get-from_entries nat_list_cmp_total ts top.0) ∙ get-coefficient (polynomial_of ts) top.0 top.2) in
         low_degree (polynomial_of ts) d (omega (arith, top.3, at))
+
+-- A list of one element.
+pub single : {A : Type 0} (xs : List A) (x : A) → 0 < length xs → length xs < 2 → x ≡ get_or xs 0 x → xs ≡ x ∷ []
+single [] x some few e = absurd (omega arith)
+single (y ∷ []) x some few e = ap (λ z. z ∷ []) (sym e)
+single (y ∷ z ∷ xs) x some few e = absurd (omega arith)

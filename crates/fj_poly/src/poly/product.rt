@@ -161,6 +161,7 @@ impl<K: Coeff, O: Order> Poly<K, O> {
 
     // The sum of the products of the terms of a falling list with a polynomial: half the list and the other half.
     fn rows(alloc: Global, left: &[Term<K>], right: &Poly<K, O>) -> Result<Poly<K, O>, AllocError>
+        requires factor { IsPolynomial K.field right.now }
         requires falls { IsFalling O.key (entries K.rank left.now) }
         requires terms { AreTerms K.field (entries K.rank left.now) }
         requires within { All (λ t. IsHigh (product K.field (term t.1 t.0) right.now) → ⊥) (entries K.rank left.now) }

@@ -8,4 +8,4 @@ loop-init g c = c.one-power.ensures
 
 pub loop-preserved : goal.loop-preserved
 unfolding power
-loop-preserved g c = rw add-one (c.mul.ensures ∙ ap (g.K.Coeff.field.mul (g.K.Coeff.rank c.args.c)) c.loop.invariant)
+loop-preserved g c = rw add-one (c.mul-power.ensures ∙ ap (g.K.Coeff.field.mul (g.K.Coeff.rank c.args.c)) c.loop.invariant)
