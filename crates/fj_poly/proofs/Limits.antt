@@ -1,8 +1,8 @@
 -- Products and powers of which no term passes the limit of the total degree.
-use Rattle.std.proofs.Common.{◌≡◌, ℕ, zero, suc, ◌+◌, ◌*◌, ◌^◌, ◌<◌, ◌≤◌, List, Option, Some, None, refl, sym, ap, ◌∙◌, subst, arith, ⊎_elim}
+use Rattle.std.proofs.Common.{◌≡◌, ℕ, zero, suc, ◌+◌, ◌*◌, ◌/◌, ◌%◌, ◌^◌, ◌<◌, ◌≤◌, List, Option, Some, None, refl, sym, ap, ◌∙◌, subst, arith, ⊎_elim}
 use Rattle.std.specs.Option.{IsSomeAnd}
 use Rattle.std.specs.FinMap.{empty}
-use Rattle.std.proofs.Math.Nat.{mul-le-mul_right}
+use Rattle.std.proofs.Math.Nat.{mul-le-mul_right, div-add-mod, mul_comm}
 use Rattle.std.proofs.lemmas.Bool.{cases_lt}
 use Rattle.fj_coeff.specs.Field.{Field, IsField}
 use Rattle.fj_theory.specs.Exponents.{IsExponents, total, origin}
@@ -11,7 +11,7 @@ use Rattle.fj_theory.proofs.Exponents.{IsExponents-origin, total_origin}
 use Rattle.fj_theory.proofs.Field.{one_below}
 use Rattle.fj_theory.proofs.Polynomial.{coefficient-empty, IsPolynomial-empty, IsPolynomial-term}
 use Rattle.fj_theory.proofs.Product.{IsPolynomial-product}
-use Rattle.fj_theory.proofs.PolynomialRing.{IsPolynomial-power, power_zero, power_suc, product_comm, product_empty}
+use Rattle.fj_theory.proofs.PolynomialRing.{IsPolynomial-power, power_zero, power_suc, power_add, power_power, product_comm, product_empty}
 use Rattle.fj_theory.proofs.Degree.{degree-empty, degree-term, degree_bounds, degree-product, degree-power, empty_from_degree}
 use Rattle.fj_poly.specs.Limit.{IsHigh}
 
@@ -85,3 +85,28 @@ module _ {F : Field} (L : IsField F) where
           let whole = degree_within _ (degree-power L P d k) low in
           let less : j * n ≤ k * n = mul-le-mul_right n le in
           low_degree _ (degree-power L P d j) (omega arith)
+
+-- A number by its quotient and residue.
+digits : (k p : ℕ) → 0 < p → k / p * p + k % p ≡ k
+digits k p positive = omega (arith, div-add-mod k p, mul_comm (k / p) p)
+
+pub quotient_below : (k p : ℕ) → 2 ≤ p → p ≤ k → k / p < k
+quotient_below k p large le =
+    let least : 2 * (k / p) ≤ p * (k / p) = mul-le-mul_right (k / p) large in
+    let whole = div-add-mod k p in
+    omega arith
+
+module _ {F : Field} (L : IsField F) {f : Polynomial} (P : IsPolynomial F f) (k p : ℕ) (positive : 0 < p) where
+  -- A power by the digits of its exponent.
+  pub power_digits : product F (power F (power F f (k / p)) p) (power F f (k % p)) ≡ power F f k
+  power_digits =
+      ap (λ h. product F h (power F f (k % p))) (power_power L P (k / p) p) ∙ sym (power_add L P (k / p * p) (k % p)) ∙ ap (power F f) (digits k p positive)
+
+  pub low_digits : (IsHigh (power F f k) → ⊥) → IsHigh (power F (power F f (k / p)) p) → ⊥
+  low_digits low = subst (λ h. IsHigh h → ⊥) (sym (power_power L P (k / p) p)) (low_power L P (k / p * p) k (omega (arith, digits k p positive)) low)
+
+  pub low_quotient : (IsHigh (power F f k) → ⊥) → IsHigh (power F f (k / p)) → ⊥
+  low_quotient low = low_power L P (k / p) k (let one : 1 * (k / p) ≤ p * (k / p) = mul-le-mul_right (k / p) positive in omega (arith, div-add-mod k p)) low
+
+  pub low_residue : (IsHigh (power F f k) → ⊥) → IsHigh (power F f (k % p)) → ⊥
+  low_residue low = low_power L P (k % p) k (omega (arith, digits k p positive)) low

@@ -193,7 +193,8 @@ impl<K: Coeff, O: Order> Poly<K, O> {
 
     // The k-th power by repeated product, of which no term is high.
     fn digit_power(&self, alloc: Global, k: u64) -> Result<Poly<K, O>, AllocError>
-        requires { IsHigh (power K.field self.now k) → ⊥ }
+        requires base { IsPolynomial K.field self.now }
+        requires within { IsHigh (power K.field self.now k) → ⊥ }
         ensures { IfOk result (λ p. p ≡ power K.field self.now k) }
     {
         let mut result = Poly::term(alloc, K::one(), &Mono::one())?;
@@ -205,7 +206,8 @@ impl<K: Coeff, O: Order> Poly<K, O> {
 
     // The k-th power by the digits of k in base P, of which no term is high.
     fn power_within(&self, alloc: Global, k: u64) -> Result<Poly<K, O>, AllocError>
-        requires { IsHigh (power K.field self.now k) → ⊥ }
+        requires base { IsPolynomial K.field self.now }
+        requires within { IsHigh (power K.field self.now k) → ⊥ }
         ensures { IfOk result (λ p. p ≡ power K.field self.now k) }
     {
         if k < K::P {
