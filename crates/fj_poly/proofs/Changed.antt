@@ -66,9 +66,9 @@ module _ {F : Field} (L : IsField F) {key : List ℕ → List ℕ} (O : IsMonomi
         let image : List (List ℕ × ℕ) = map (changed u g) ts in
         let at : get_or image i d ≡ changed u g (get_or ts i d) = get_or-map (changed u g) ts i d d l in
         let found : coefficient (polynomial_of image) (get_or image i d).0 ≡ (get_or image i d).1 =
-            falling_coefficients O image Listed-changed.falls i d (omega (arith, length-map ts (changed u g))) in
+        falling_coefficients O image Listed-changed.falls i d (omega (arith, length-map ts (changed u g))) in
         let c : coefficient (Φ f) (changed u g (get_or ts i d)).0 ≡ (changed u g (get_or ts i d)).1 =
-            subst (λ t. coefficient (Φ f) t.0 ≡ t.1) at (subst (λ h. coefficient h (get_or image i d).0 ≡ (get_or image i d).1) Listed-changed.value found) in
+        subst (λ t. coefficient (Φ f) t.0 ≡ t.1) at (subst (λ h. coefficient h (get_or image i d).0 ≡ (get_or image i d).1) Listed-changed.value found) in
         total_within L P low _ T.exponents (subst (λ k. 0 < k) (sym c) T.nonzero)
 
 -- One more element of a list is changed.

@@ -5,12 +5,11 @@ use Rattle.std.specs.FinMap.{empty}
 use Rattle.std.proofs.Math.Nat.{mul-le-mul_right, div-add-mod, mul_comm}
 use Rattle.std.proofs.lemmas.Bool.{cases_lt}
 use Rattle.fj_coeff.specs.Field.{Field, IsField}
-use Rattle.fj_theory.specs.Exponents.{IsExponents, total, origin}
+use Rattle.fj_theory.specs.Exponents.{IsExponents, total}
 use Rattle.fj_theory.specs.Polynomial.{Polynomial, IsPolynomial, coefficient, degree, product, power, term}
 use Rattle.fj_theory.proofs.Exponents.{IsExponents-origin, total_origin}
 use Rattle.fj_theory.proofs.Field.{one_below}
 use Rattle.fj_theory.proofs.Polynomial.{coefficient-empty, IsPolynomial-empty, IsPolynomial-term}
-use Rattle.fj_theory.proofs.Product.{IsPolynomial-product}
 use Rattle.fj_theory.proofs.PolynomialRing.{IsPolynomial-power, power_zero, power_suc, power_add, power_power, product_comm, product_empty}
 use Rattle.fj_theory.proofs.Degree.{degree-empty, degree-term, degree_bounds, degree-product, degree-power, empty_from_degree}
 use Rattle.fj_poly.specs.Limit.{IsHigh}

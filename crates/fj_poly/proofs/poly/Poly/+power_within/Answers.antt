@@ -1,5 +1,5 @@
 use Rattle.std.proofs.Common.{◌≡◌, ◌<◌, ◌≤◌, ◌/◌, ◌%◌, IfOk, ap, ap₂, sym, ◌∙◌, subst, arith, rules}
-use Rattle.fj_theory.specs.Polynomial.{IsPolynomial, product, power}
+use Rattle.fj_theory.specs.Polynomial.{product, power}
 use Rattle.fj_theory.proofs.Field.{characteristic_large}
 use Rattle.fj_poly.specs.Limit.{IsHigh}
 use Rattle.fj_poly.proofs.Limits.{quotient_below, power_digits, low_digits, low_quotient, low_residue}
@@ -20,7 +20,7 @@ power_within-requires g t c =
     let base = c.requires.base in
     let below : c.args.k / c.P-2.result < c.args.k = rw c.P-2.ensures (quotient_below c.args.k g.K.Coeff.P (large g) (omega (arith, c.P.ensures, c.if-k-P.false))) in
     let within : IsHigh (power g.K.Coeff.field c.args.self.now (c.args.k / c.P-2.result)) → ⊥ =
-        rw c.P-2.ensures (low_quotient g.met.K.Coeff.lawful c.requires.base c.args.k g.K.Coeff.P (positive g) c.requires.within) in
+    rw c.P-2.ensures (low_quotient g.met.K.Coeff.lawful c.requires.base c.args.k g.K.Coeff.P (positive g) c.requires.within) in
     search rules
 
 pub frobenius-requires : goal.frobenius-requires

@@ -1,7 +1,6 @@
-use Rattle.std.proofs.Common.{◌≡◌, ◌<◌, ◌≤◌, ℕ, List, [], ◌∷◌, ◌++◌, All, length, take, drop, map, get_or, IfOk, refl, ap, ap₂, sym, ◌∙◌, arith, subst, rules}
+use Rattle.std.proofs.Common.{◌≡◌, [], ◌∷◌, ◌++◌, IfOk, refl, ap, ap₂, sym, ◌∙◌, arith, subst, rules}
 use Rattle.std.proofs.lemmas.List.{length-map, nil_from_length}
-use Rattle.std.proofs.lemmas.List.Elements.{All-head}
-use Rattle.fj_theory.specs.Polynomial.{IsFalling, IsPolynomial, product, term, sum}
+use Rattle.fj_theory.specs.Polynomial.{product, term, sum}
 use Rattle.fj_poly.specs.Limit.{IsHigh}
 use Rattle.fj_poly.specs.Terms.{AreTerms, entry, entries}
 use Rattle.fj_poly.proofs.Polynomials.{polynomial_of, polynomial_of-term}
@@ -14,7 +13,7 @@ rows-requires g t c =
     let back = c.split_at.ensures.back in
     let whole = cut (entry g.K.Coeff.rank) c.args.left.now c.split_at.result.0.now c.split_at.result.1.now _ front back in
     let all : Rows g.K.Coeff.field g.O.Order.key (entries g.K.Coeff.rank c.split_at.result.0.now ++ entries g.K.Coeff.rank c.split_at.result.1.now) c.args.right.now =
-        subst (λ ts. Rows g.K.Coeff.field g.O.Order.key ts c.args.right.now) (sym whole) (record { falls = c.requires.falls; terms = c.requires.terms; within = c.requires.within }) in
+    subst (λ ts. Rows g.K.Coeff.field g.O.Order.key ts c.args.right.now) (sym whole) (record { falls = c.requires.falls; terms = c.requires.terms; within = c.requires.within }) in
     let part : Rows g.K.Coeff.field g.O.Order.key (entries g.K.Coeff.rank c.split_at.result.0.now) c.args.right.now = Rows-front _ _ all in
     let falls = part.falls in
     let terms = part.terms in
@@ -28,7 +27,7 @@ rows-requires-in_default g t c =
     let back = c.split_at.ensures.back in
     let whole = cut (entry g.K.Coeff.rank) c.args.left.now c.split_at.result.0.now c.split_at.result.1.now _ front back in
     let all : Rows g.K.Coeff.field g.O.Order.key (entries g.K.Coeff.rank c.split_at.result.0.now ++ entries g.K.Coeff.rank c.split_at.result.1.now) c.args.right.now =
-        subst (λ ts. Rows g.K.Coeff.field g.O.Order.key ts c.args.right.now) (sym whole) (record { falls = c.requires.falls; terms = c.requires.terms; within = c.requires.within }) in
+    subst (λ ts. Rows g.K.Coeff.field g.O.Order.key ts c.args.right.now) (sym whole) (record { falls = c.requires.falls; terms = c.requires.terms; within = c.requires.within }) in
     let part : Rows g.K.Coeff.field g.O.Order.key (entries g.K.Coeff.rank c.split_at.result.1.now) c.args.right.now = Rows-back _ _ all in
     let falls = part.falls in
     let terms = part.terms in
@@ -58,7 +57,7 @@ pub returns-in_ok-second-in_default : goal.returns-in_ok-second-in_default
 returns-in_ok-second-in_default g t c =
     let whole = cut (entry g.K.Coeff.rank) c.args.left.now c.split_at.result.0.now c.split_at.result.1.now _ c.split_at.ensures.front c.split_at.ensures.back in
     let both = product-append g.met.K.Coeff.lawful c.requires.factor g.O.Order.key (entries g.K.Coeff.rank c.split_at.result.0.now) (entries g.K.Coeff.rank c.split_at.result.1.now)
-        (rw whole c.requires.falls) (rw whole c.requires.terms) in
+    (rw whole c.requires.falls) (rw whole c.requires.terms) in
     subst (λ h. IfOk c.add.result (λ p. p ≡ h))
     (ap₂ (sum g.K.Coeff.field) c.in_ok-first-in_default.ensures c.in_ok-second-in_default.ensures ∙ sym both
     ∙ ap (λ ts. product g.K.Coeff.field (polynomial_of ts) c.args.right.now) whole)

@@ -1,5 +1,5 @@
-use Rattle.std.proofs.Common.{◌≡◌, ◌+◌, ◌<◌, suc, ap, ap₂, sym, ◌∙◌, subst, arith, add-one}
-use Rattle.fj_theory.specs.Polynomial.{product, power, term}
+use Rattle.std.proofs.Common.{suc, ap, ap₂, sym, ◌∙◌, subst, arith, add-one}
+use Rattle.fj_theory.specs.Polynomial.{product, term}
 use Rattle.fj_theory.proofs.PolynomialRing.{power_zero, power_suc}
 use Rattle.fj_poly.specs.Limit.{IsHigh}
 use Rattle.fj_poly.proofs.Limits.{low_power}

@@ -1,6 +1,6 @@
-use Rattle.std.proofs.Common.{◌≡◌, ◌<◌, ◌≤◌, ◌^◌, ℕ, List, length, map, ap, sym, ◌∙◌, arith, subst}
+use Rattle.std.proofs.Common.{◌≤◌, ◌^◌, length, ap, ◌∙◌, arith, subst}
 use Rattle.std.proofs.lemmas.List.{length-map}
-use Rattle.fj_theory.specs.Exponents.{total, plus, times}
+use Rattle.fj_theory.specs.Exponents.{total, times}
 use Rattle.fj_coeff.specs.Field.{power}
 use Rattle.fj_theory.proofs.TermMaps.{changed}
 use Rattle.fj_poly.specs.Terms.{entry, entries}
@@ -13,7 +13,7 @@ unwrap-requires g c =
     let at = at_item (entry g.K.Coeff.rank) c.self.inside.terms.items c.as_slice-t-items.result.now c.loop-t.t-index c.t-item.result c.as_slice-t-items.ensures.value c.loop-t-test.true c.t-item.is in
     let own : Listed g.K.Coeff.field g.O.Order.key (entries g.K.Coeff.rank c.self.inside.terms.items) c.args.self.now = record { falls = c.self.invariant.0; terms = c.self.invariant.1; value = c.self.view_is } in
     let within = frobenius_within g.met.K.Coeff.lawful g.met.O.Order.monomial_order own g.K.Coeff.P g.met.K.Coeff.characteristic_is c.requires c.loop-t.t-index (entry g.K.Coeff.rank c.t-item.result)
-        (omega (arith, length-map c.self.inside.terms.items (entry g.K.Coeff.rank), c.loop-t-test.true, ap length c.as_slice-t-items.ensures.value)) in
+    (omega (arith, length-map c.self.inside.terms.items (entry g.K.Coeff.rank), c.loop-t-test.true, ap length c.as_slice-t-items.ensures.value)) in
     let small = subst (λ t. total (times g.K.Coeff.P t.0) ≤ 2 ^ 40) at within in
     ok_from_not_err _ (λ e. let above = rw c.P-in-loop-t.ensures at (c.try_scale.ensures.high.0 e) in absurd (omega arith))
 

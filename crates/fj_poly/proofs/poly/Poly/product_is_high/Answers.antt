@@ -1,11 +1,7 @@
-use Rattle.std.proofs.Common.{◌≡◌, ◌<◌, ◌≤◌, ◌^◌, ◌+◌, ◌*◌, Some, None, sym, ap, ◌∙◌, arith}
+use Rattle.std.proofs.Common.{sym, arith}
 use Rattle.std.proofs.lemmas.Bool.{true≢false, ltb-true, lt-ltb}
-use Rattle.fj_theory.specs.Exponents.{total}
-use Rattle.fj_theory.specs.Polynomial.{degree, product, power, term}
-use Rattle.fj_theory.proofs.Field.{one_below}
-use Rattle.fj_theory.proofs.Polynomial.{IsPolynomial-term}
-use Rattle.fj_theory.proofs.Degree.{degree-product, degree-power, degree-term}
-use Rattle.fj_poly.proofs.Limits.{IsHigh-degree, high_degree, low_product_none, low_product_none_right, low_power_none}
+use Rattle.fj_theory.proofs.Degree.{degree-product}
+use Rattle.fj_poly.proofs.Limits.{IsHigh-degree, high_degree, low_product_none, low_product_none_right}
 use Rattle.fj_poly.proofs.poly.Poly.product_is_high.Goals as goal
 
 pub returns-in-Some-degree-clause-high : goal.returns-in-Some-degree-clause-high

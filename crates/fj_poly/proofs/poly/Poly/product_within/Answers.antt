@@ -1,5 +1,5 @@
-use Rattle.std.proofs.Common.{◌≡◌, IfOk, ap, sym, ◌∙◌, subst}
-use Rattle.fj_theory.specs.Polynomial.{IsPolynomial, product}
+use Rattle.std.proofs.Common.{◌≡◌, IfOk, ap, ◌∙◌, subst}
+use Rattle.fj_theory.specs.Polynomial.{product}
 use Rattle.fj_theory.proofs.PolynomialRing.{product_comm}
 use Rattle.fj_poly.specs.Limit.{IsHigh}
 use Rattle.fj_poly.specs.Terms.{entries}

@@ -1,4 +1,4 @@
-use Rattle.std.proofs.Common.{◌≡◌, ap, ◌∙◌, add-one}
+use Rattle.std.proofs.Common.{ap, ◌∙◌, add-one}
 use Rattle.fj_coeff.specs.Field.{power}
 use Rattle.fj_poly.proofs.poly.product.coefficient_power.Goals as goal
 
