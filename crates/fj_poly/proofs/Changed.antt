@@ -10,15 +10,15 @@ use Rattle.fj_coeff.specs.Field.{Field, IsField}
 use Rattle.fj_coeff.specs.Field as field
 use Rattle.fj_theory.specs.Exponents.{IsExponents, total, times, plus}
 use Rattle.fj_theory.specs.MonomialOrder.{compare_by, IsMonomialOrder}
-use Rattle.fj_theory.specs.Polynomial.{Polynomial, IsPolynomial, IsTerm, IsFalling, coefficient, degree, terms_falling, term, sum, product, power}
+use Rattle.fj_theory.specs.Polynomial.{negation, Polynomial, IsPolynomial, IsTerm, IsFalling, coefficient, degree, terms_falling, term, sum, product, power}
 use Rattle.fj_theory.proofs.Polynomial.{IsPolynomial-term, IsPolynomial-empty, get-coefficient}
-use Rattle.fj_theory.proofs.PolynomialRing.{product_comm, product_empty, product_sum, IsPolynomial-power}
+use Rattle.fj_theory.proofs.PolynomialRing.{product_comm, product_empty, product_sum, IsPolynomial-power, IsPolynomial-negation}
 use Rattle.fj_theory.proofs.Product.{IsPolynomial-product}
 use Rattle.fj_theory.proofs.MonomialOrder.{compare_by-plus_left, compare_by-times}
 use Rattle.fj_theory.proofs.Terms.{from_entries-terms_falling, falling_coefficients, find_All}
 use Rattle.fj_theory.proofs.Degree.{degree_attained, empty_from_degree}
 use Rattle.fj_theory.proofs.Frobenius.{power_positive}
-use Rattle.fj_theory.proofs.TermMaps.{IsTermMap, changed, IsFalling-changed, terms_falling-changed, product_term-IsTermMap, frobenius-IsTermMap}
+use Rattle.fj_theory.proofs.TermMaps.{IsTermMap, changed, IsFalling-changed, terms_falling-changed, product_term-IsTermMap, frobenius-IsTermMap, negation-IsTermMap}
 use Rattle.fj_poly.specs.Limit.{IsHigh}
 use Rattle.fj_poly.specs.declared.poly.Term.{Term}
 use Rattle.fj_poly.specs.Terms.{AreTerms, entry, entries}
@@ -111,6 +111,10 @@ module _ {F : Field} (L : IsField F) {key : List ℕ → List ℕ} (O : IsMonomi
 
     pub product_term_within : (IsHigh (product F (term c m) f) → ⊥) → (i : ℕ) (d : List ℕ × ℕ) → i < length ts → total (plus m (get_or ts i d).0) ≤ 2 ^ 40
     product_term_within low i d l = changed_within L O own by_term (λ a b B C. compare_by-plus_left O B C A) by_term_polynomial low i d l
+
+  -- The negation, term by term.
+  pub Listed-negation : Listed F key (map (changed F.neg (λ a. a)) ts) (negation F f)
+  Listed-negation = Listed-changed L O own (negation-IsTermMap L) (λ a b A B. refl) (IsPolynomial-negation L (listed_polynomial L O own))
 
   -- Of a product that is not high no row is.
   pub rows_within : {g : Polynomial} → IsPolynomial F g → (IsHigh (product F f g) → ⊥) → All (λ t. IsHigh (product F (term t.1 t.0) g) → ⊥) ts

@@ -6,6 +6,7 @@ ghost use Rattle.fj_theory.specs.MonomialOrder.{compare_by};
 ghost use Rattle.fj_theory.specs.Polynomial.{IsPolynomial, coefficient, degree, lead, sum, term, terms_falling};
 ghost use Rattle.fj_poly.specs.Limit.{IsHigh};
 
+mod order;
 mod product;
 
 use fj_coeff::Coeff;
