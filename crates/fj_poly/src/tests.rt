@@ -145,6 +145,8 @@ fn products<K: Coeff, O: Order>(
         &[([1, 1, 2], 1), ([0, 2, 2], 1)],
     );
     assert!(rt; first.copy(alloc)?.same(&first));
+    has_terms(rt, &first.sub(alloc, &second)?, Some(1), &[([0, 1, 0], 1)]);
+    assert!(rt; first.sub(alloc, &first)?.is_zero());
     Ok(())
 }
 
@@ -170,6 +172,10 @@ fn textbook_products(rt: HostRuntime) -> Result<(), Fail> {
             ([0, 0, 0], 1),
         ],
     );
+    // y^2 + x: Lex takes x first, Grevlex y^2.
+    let mixed: Poly<Fp<3>, Lex> = poly(&rt, alloc, &[([0, 2, 0], 1), ([1, 0, 0], 1)])?;
+    let reordered: Poly<Fp<3>, Grevlex> = mixed.reorder(alloc)?;
+    has_terms(&rt, &reordered, Some(2), &[([0, 2, 0], 1), ([1, 0, 0], 1)]);
     // The degree 2^40 is within the limit, and the next one isn't.
     let limit: Poly<Fp<3>, Lex> = poly(&rt, alloc, &[([1 << 39, 0, 0], 1)])?;
     assert_eq!(rt; limit.mul(alloc, &limit)?.degree(), Some(1 << 40));

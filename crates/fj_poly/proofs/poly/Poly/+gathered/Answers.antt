@@ -37,7 +37,7 @@ pub returns-in_ok-second-in_default : goal.returns-in_ok-second-in_default
 returns-in_ok-second-in_default g t c =
     let whole = cut (entry g.K.Coeff.rank) c.args.list.now c.split_at.result.0.now c.split_at.result.1.now _ c.split_at.ensures.front c.split_at.ensures.back in
     let both = sum-append g.met.K.Coeff.lawful g.O.Order.key (entries g.K.Coeff.rank c.split_at.result.0.now) (entries g.K.Coeff.rank c.split_at.result.1.now)
-        (rw whole c.requires.falls) (rw whole c.requires.terms) in
+    (rw whole c.requires.falls) (rw whole c.requires.terms) in
     subst (λ h. IfOk c.add.result (λ p. p ≡ h))
     (ap₂ (sum g.K.Coeff.field) c.in_ok-first-in_default.ensures c.in_ok-second-in_default.ensures ∙ sym both ∙ ap polynomial_of whole)
     c.add.ensures.value
