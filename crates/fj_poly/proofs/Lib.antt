@@ -6,3 +6,4 @@ pub mod Coefficients
 pub mod Push
 pub mod Limits
 pub mod Changed
+pub mod Values

@@ -5,6 +5,7 @@ mod fault;
 mod poly;
 
 pub use fault::PolyFault;
+pub use poly::point::Point;
 pub use poly::{GPoly, Poly};
 
 #[cfg(test)]

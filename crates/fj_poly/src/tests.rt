@@ -1,5 +1,6 @@
 use crate::fault::PolyFault;
 use crate::poly::Poly;
+use crate::poly::point::Point;
 use fj_coeff::{Coeff, Fp};
 use fj_mono::{Grevlex, Lex, Mono, Order};
 use std::alloc::{AllocError, Global};
@@ -189,4 +190,19 @@ fn textbook_products(rt: HostRuntime) -> Result<(), Fail> {
 
 fn is_high<K: Coeff, O: Order>(answer: Result<Poly<K, O>, PolyFault>) -> bool {
     matches!(answer, Err(PolyFault::High))
+}
+
+// x^2*y + 2*z + 1 at (2, 3) and at (2, 3, 4), modulo 5: 12 + 1 and 12 + 8 + 1.
+#[test]
+fn textbook_values(rt: HostRuntime) -> Result<(), Fail> {
+    let alloc = rt.alloc();
+    let terms = [([2, 1, 0], 1), ([0, 0, 1], 2), ([0, 0, 0], 1)];
+    let p: Poly<Fp<5>, Grevlex> = poly(&rt, alloc, &terms)?;
+    let plane = Point::of(alloc, &[number(2), number(3)])?;
+    assert!(rt; p.eval(&plane) == number(3));
+    let space = Point::of(alloc, &[number(2), number(3), number(4)])?;
+    assert!(rt; p.eval(&space) == number(1));
+    let zero: Poly<Fp<5>, Lex> = Poly::zero(alloc);
+    assert!(rt; zero.eval(&plane) == number(0));
+    Ok(())
 }

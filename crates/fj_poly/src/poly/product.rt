@@ -219,13 +219,14 @@ impl<K: Coeff, O: Order> Poly<K, O> {
     }
 }
 
-// The k-th power of a coefficient.
-fn coefficient_power<K: Coeff>(c: K, k: u64) -> K
+// The k-th power of a coefficient, by repeated squares.
+pub(super) fn coefficient_power<K: Coeff>(c: K, k: u64) -> K
     ensures { K.rank result ≡ field.power K.field (K.rank c) k }
 {
-    let mut power = K::one();
-    for _ in 0..k {
-        power = c.mul(power);
+    if k == 0 {
+        return K::one();
     }
-    power
+    let half = coefficient_power(c, k / 2);
+    let square = half.mul(half);
+    if k % 2 == 0 { square } else { c.mul(square) }
 }

@@ -1,4 +1,4 @@
-use Rattle.std.proofs.Common.{◌≡◌, ◌<◌, ◌≤◌, ℕ, List, [], ◌∷◌, ◌++◌, IfOk, length, take, drop, ap, ap₂, sym, ◌∙◌, arith, subst, rules}
+use Rattle.std.proofs.Common.{◌≡◌, [], ◌∷◌, IfOk, ap, ap₂, sym, ◌∙◌, arith, subst, rules}
 use Rattle.std.proofs.lemmas.List.{nil_from_length}
 use Rattle.fj_theory.specs.Polynomial.{IsFalling, sum}
 use Rattle.fj_poly.specs.Terms.{AreTerms, entry, entries}

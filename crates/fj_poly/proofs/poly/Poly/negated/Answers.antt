@@ -1,4 +1,4 @@
-use Rattle.std.proofs.Common.{◌≡◌, List, ap, ◌∙◌}
+use Rattle.std.proofs.Common.{ap, ◌∙◌}
 use Rattle.fj_theory.proofs.TermMaps.{changed}
 use Rattle.fj_poly.specs.Terms.{entry, entries}
 use Rattle.fj_poly.proofs.Polynomials.{polynomial_of}
