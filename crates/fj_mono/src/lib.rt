@@ -4,5 +4,5 @@
 mod mono;
 mod order;
 
-pub use mono::{High, Mono};
+pub use mono::{DEGREE_LIMIT, High, Mono};
 pub use order::{Elim, Grevlex, Grlex, Lex, Order};

@@ -4,3 +4,6 @@ pub mod Merge
 pub mod View
 pub mod Coefficients
 pub mod Push
+pub mod Limits
+pub mod Changed
+pub mod Values

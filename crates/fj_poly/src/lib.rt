@@ -1,8 +1,11 @@
 //! Polynomials in eight variables over a coefficient field, as sorted lists of terms.
 #![tactic(auto)]
 
+mod fault;
 mod poly;
 
+pub use fault::PolyFault;
+pub use poly::point::Point;
 pub use poly::{GPoly, Poly};
 
 #[cfg(test)]

@@ -4,6 +4,11 @@ ghost use Rattle.std.specs.declared.cmp.Ordering.TheVariants.{Greater};
 ghost use Rattle.std.specs.FinMap.{empty, len};
 ghost use Rattle.fj_theory.specs.MonomialOrder.{compare_by};
 ghost use Rattle.fj_theory.specs.Polynomial.{IsPolynomial, coefficient, degree, lead, sum, term, terms_falling};
+ghost use Rattle.fj_poly.specs.Limit.{IsHigh};
+
+mod order;
+pub(crate) mod point;
+mod product;
 
 use fj_coeff::Coeff;
 use fj_mono::{Grevlex, Mono, Order};
@@ -167,7 +172,9 @@ impl<K: Coeff, O: Order> Poly<K, O> {
 
     /// The total degree, in eight variables. `None` exactly for zero.
     pub fn degree(&self) -> Option<u64>
-        ensures { result ≡ degree self.now }
+        ensures value { result ≡ degree self.now }
+        ensures limit { IsHigh self.now → ⊥ }
+        ensures polynomial { IsPolynomial K.field self.now }
     {
         let mut greatest = None;
         for t in self.terms.as_slice() {

@@ -1,4 +1,6 @@
+use crate::fault::PolyFault;
 use crate::poly::Poly;
+use crate::poly::point::Point;
 use fj_coeff::{Coeff, Fp};
 use fj_mono::{Grevlex, Lex, Mono, Order};
 use std::alloc::{AllocError, Global};
@@ -114,4 +116,93 @@ fn textbook_sums(rt: HostRuntime) -> Result<(), Fail> {
         degree: Some(2),
     };
     sums::<Fp<5>, Grevlex>(&rt, rt.alloc(), &by_degree)
+}
+
+// Products and powers: (x + 2*y)*(x + y) is x^2 + 2*y^2 modulo 3, and x^2 + 3*x*y + 2*y^2 modulo 5.
+fn products<K: Coeff, O: Order>(
+    rt: &impl Abort,
+    alloc: Global,
+    product: &[([u64; 3], u64)],
+) -> Result<(), Fail> {
+    let first: Poly<K, O> = poly(rt, alloc, &[([1, 0, 0], 1), ([0, 1, 0], 2)])?;
+    let second: Poly<K, O> = poly(rt, alloc, &[([1, 0, 0], 1), ([0, 1, 0], 1)])?;
+    has_terms(rt, &first.mul(alloc, &second)?, Some(2), product);
+    has_terms(rt, &second.mul(alloc, &first)?, Some(2), product);
+    let zero: Poly<K, O> = Poly::zero(alloc);
+    assert!(rt; first.mul(alloc, &zero)?.is_zero());
+    assert!(rt; zero.pow(alloc, 2)?.is_zero());
+    has_terms(rt, &zero.pow(alloc, 0)?, Some(0), &[([0, 0, 0], 1)]);
+    assert!(rt; first.scale(alloc, K::zero())?.is_zero());
+    has_terms(
+        rt,
+        &second.scale(alloc, number(2))?,
+        Some(1),
+        &[([1, 0, 0], 2), ([0, 1, 0], 2)],
+    );
+    has_terms(
+        rt,
+        &second.shift(alloc, &mono(rt, [0, 1, 2]))?,
+        Some(4),
+        &[([1, 1, 2], 1), ([0, 2, 2], 1)],
+    );
+    assert!(rt; first.copy(alloc)?.same(&first));
+    has_terms(rt, &first.sub(alloc, &second)?, Some(1), &[([0, 1, 0], 1)]);
+    assert!(rt; first.sub(alloc, &first)?.is_zero());
+    Ok(())
+}
+
+#[test]
+fn textbook_products(rt: HostRuntime) -> Result<(), Fail> {
+    let alloc = rt.alloc();
+    products::<Fp<3>, Grevlex>(&rt, alloc, &[([2, 0, 0], 1), ([0, 2, 0], 2)])?;
+    products::<Fp<5>, Lex>(
+        &rt,
+        alloc,
+        &[([2, 0, 0], 1), ([1, 1, 0], 3), ([0, 2, 0], 2)],
+    )?;
+    // (x + 1)^10 modulo 3 is (x^9 + 1)*(x + 1).
+    let base: Poly<Fp<3>, Lex> = poly(&rt, alloc, &[([1, 0, 0], 1), ([0, 0, 0], 1)])?;
+    has_terms(
+        &rt,
+        &base.pow(alloc, 10)?,
+        Some(10),
+        &[
+            ([10, 0, 0], 1),
+            ([9, 0, 0], 1),
+            ([1, 0, 0], 1),
+            ([0, 0, 0], 1),
+        ],
+    );
+    // y^2 + x: Lex takes x first, Grevlex y^2.
+    let mixed: Poly<Fp<3>, Lex> = poly(&rt, alloc, &[([0, 2, 0], 1), ([1, 0, 0], 1)])?;
+    let reordered: Poly<Fp<3>, Grevlex> = mixed.reorder(alloc)?;
+    has_terms(&rt, &reordered, Some(2), &[([0, 2, 0], 1), ([1, 0, 0], 1)]);
+    // The degree 2^40 is within the limit, and the next one isn't.
+    let limit: Poly<Fp<3>, Lex> = poly(&rt, alloc, &[([1 << 39, 0, 0], 1)])?;
+    assert_eq!(rt; limit.mul(alloc, &limit)?.degree(), Some(1 << 40));
+    assert!(rt; limit.pow(alloc, 2).is_ok());
+    assert!(rt; is_high(limit.pow(alloc, 3)));
+    assert!(rt; is_high(limit.shift(alloc, &mono(&rt, [1 << 39, 1, 0]))));
+    let high: Poly<Fp<3>, Lex> = poly(&rt, alloc, &[([1 << 39, 1, 0], 1), ([0, 0, 0], 1)])?;
+    assert!(rt; is_high(high.mul(alloc, &limit)));
+    Ok(())
+}
+
+fn is_high<K: Coeff, O: Order>(answer: Result<Poly<K, O>, PolyFault>) -> bool {
+    matches!(answer, Err(PolyFault::High))
+}
+
+// x^2*y + 2*z + 1 at (2, 3) and at (2, 3, 4), modulo 5: 12 + 1 and 12 + 8 + 1.
+#[test]
+fn textbook_values(rt: HostRuntime) -> Result<(), Fail> {
+    let alloc = rt.alloc();
+    let terms = [([2, 1, 0], 1), ([0, 0, 1], 2), ([0, 0, 0], 1)];
+    let p: Poly<Fp<5>, Grevlex> = poly(&rt, alloc, &terms)?;
+    let plane = Point::of(alloc, &[number(2), number(3)])?;
+    assert!(rt; p.eval(&plane) == number(3));
+    let space = Point::of(alloc, &[number(2), number(3), number(4)])?;
+    assert!(rt; p.eval(&space) == number(1));
+    let zero: Poly<Fp<5>, Lex> = Poly::zero(alloc);
+    assert!(rt; zero.eval(&plane) == number(0));
+    Ok(())
 }
