@@ -1,12 +1,10 @@
 -- The polynomial that terms add up to.
-use Rattle.std.proofs.Common.{◌≡◌, ℕ, suc, ◌+◌, ◌%◌, ◌<◌, List, [], ◌∷◌, ◌++◌, length, All, slice_index, take, drop, refl, sym, ap, ap₂, ◌∙◌, subst, arith, IfOk, Result, Ok, Err}
-use Rattle.std.proofs.Math.ListN.{take-append-drop}
+use Rattle.std.proofs.Common.{◌≡◌, ℕ, ◌%◌, List, [], ◌∷◌, ◌++◌, length, All, slice_index, refl, sym, ap, ◌∙◌, arith, IfOk, Result, Ok, Err}
 use Rattle.std.proofs.lemmas.List.Elements.{All-head, All-tail}
 use Rattle.std.proofs.lemmas.Nat.{mod_below}
-use Rattle.std.specs.FinMap.{empty}
 use Rattle.fj_coeff.specs.Field.{Field, IsField}
 use Rattle.fj_coeff.specs.PrimeFieldLaws.{prime_bounds}
-use Rattle.fj_theory.specs.Polynomial.{Polynomial, IsPolynomial, sum, term}
+use Rattle.fj_theory.specs.Polynomial.{IsPolynomial, sum, term}
 use Rattle.fj_theory.proofs.Polynomial.{IsPolynomial-empty, IsPolynomial-sum, IsPolynomial-term}
 use Rattle.fj_theory.proofs.PolynomialRing.{sum_comm, sum_assoc, sum_empty}
 use Rattle.fj_session.specs.Answer.{declared}

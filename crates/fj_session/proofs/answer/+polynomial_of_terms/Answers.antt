@@ -1,9 +1,8 @@
-use Rattle.std.proofs.Common.{◌≡◌, List, [], ◌∷◌, ◌++◌, length, All, IfOk, sym, ap, ap₂, ◌∙◌, subst, arith, map, get_or, take, drop}
+use Rattle.std.proofs.Common.{◌≡◌, List, [], ◌∷◌, ◌++◌, length, All, sym, ap, ap₂, ◌∙◌, subst, arith, get_or}
 use Rattle.std.proofs.lemmas.List.Elements.{All-map}
 use Rattle.std.proofs.Math.ListN.{take-append-drop}
 use Rattle.std.proofs.lemmas.List.{map-append}
-use Rattle.fj_coeff.specs.Field.{Field}
-use Rattle.fj_theory.specs.Polynomial.{IsPolynomial, sum, term}
+use Rattle.fj_theory.specs.Polynomial.{IsPolynomial, sum}
 use Rattle.fj_theory.proofs.Polynomial.{IsPolynomial-empty}
 use Rattle.fj_session.specs.declared.term.Term.{Term}
 use Rattle.fj_session.specs.Answer.{declared}

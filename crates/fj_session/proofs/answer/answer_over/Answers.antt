@@ -1,4 +1,4 @@
-use Rattle.std.proofs.Common.{◌^◌, ◌++◌, sym, ap, ap₂, ◌∙◌, subst}
+use Rattle.std.proofs.Common.{◌^◌, ◌++◌, ap, ap₂, ◌∙◌, subst}
 use Rattle.fj_theory.specs.Parts.{IsParts}
 use Rattle.fj_root.specs.Part.{parts_of}
 use Rattle.fj_session.specs.Answer.{declared, parts_bytes}

@@ -1,4 +1,4 @@
-use Rattle.std.proofs.Common.{◌≡◌, ◌<◌, ◌%◌, ap, ◌∙◌, sym, arith, IfOk, Result, Ok, Err, subst}
+use Rattle.std.proofs.Common.{◌≡◌, ◌∙◌, arith}
 use Rattle.std.proofs.lemmas.Nat.{mod_below}
 use Rattle.fj_coeff.specs.PrimeFieldLaws.{prime_bounds}
 use Rattle.fj_session.proofs.answer.polynomial_of_term.Goals as goal

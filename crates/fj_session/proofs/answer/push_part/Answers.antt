@@ -1,4 +1,4 @@
-use Rattle.std.proofs.Common.{◌≡◌, ◌++◌, ◌∷◌, [], ℕ, List, length, take, sym, ap, ap₂, ◌∙◌, arith, append_assoc, codes, decimal}
+use Rattle.std.proofs.Common.{◌≡◌, ◌++◌, ◌∷◌, [], ℕ, List, length, take, sym, ap, ap₂, ◌∙◌, append_assoc, codes, decimal}
 use Rattle.std.proofs.lemmas.List.{length-map}
 use Rattle.fj_session.specs.Text.{residue_bytes}
 use Rattle.fj_session.specs.Answer.{part_line, polynomial_bytes}

@@ -1,9 +1,9 @@
-use Rattle.std.proofs.Common.{◌≡◌, ◌<◌, ◌++◌, length, take, sym, ap, ◌∙◌, arith, append_assoc, codes, decimal}
+use Rattle.std.proofs.Common.{◌++◌, length, sym, ap, ◌∙◌, arith, append_assoc, codes, decimal}
 use Rattle.std.specs.List.{flat_map}
 use Rattle.std.proofs.lemmas.Bool.{eqb-true, eqb-false}
 use Rattle.std.proofs.lemmas.List.{length-map, take_all}
 use Rattle.fj_root.specs.Part.{part_of, parts_of}
-use Rattle.fj_session.specs.Answer.{part_line, parts_bytes}
+use Rattle.fj_session.specs.Answer.{part_line}
 use Rattle.fj_session.specs.Reading.{words_of}
 use Rattle.fj_session.proofs.AnswerTexts.{lines_more, parts_bytes-some, parts_bytes-none}
 use Rattle.fj_session.proofs.answer.push_parts.Goals as goal

@@ -1,4 +1,4 @@
-use Rattle.std.proofs.Common.{◌≡◌, ◌++◌, ◌<◌, [], cond, ltb}
+use Rattle.std.proofs.Common.{◌≡◌, ◌++◌}
 use Rattle.fj_theory.specs.MonomialOrder.{grevlex_key}
 use Rattle.fj_theory.specs.Polynomial.{terms_falling}
 use Rattle.fj_session.specs.Reading.{words_of}
