@@ -5,3 +5,6 @@
 mod part;
 
 pub use part::{Part, parts};
+
+#[cfg(test)]
+mod tests;
