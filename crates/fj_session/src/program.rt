@@ -80,12 +80,7 @@ fn write<K: Sink>(sink: &mut K, status: u8, output: &[u8]) -> u8
 /// - 4: a read failed. Nothing was written.
 /// - 5: a write failed. A front of the output was written.
 /// - 6: memory was wanting. Nothing was written.
-pub fn run<S: Source, K: Sink>(
-    alloc: Global,
-    words: &[&str],
-    source: &mut S,
-    sink: &mut K,
-) -> u8
+pub fn run<S: Source, K: Sink>(alloc: Global, words: &[&str], source: &mut S, sink: &mut K) -> u8
     // What is written where nothing outside fails.
     ensures whole { result < 4 → (output : List ℕ)
         × IsRun (texts_of words.now) (S.left source.old) (S.left source.new) result output

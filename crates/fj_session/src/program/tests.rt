@@ -105,7 +105,13 @@ fn fails_as_the_outside_does(rt: HostRuntime) -> Result<(), Fail> {
         (&[2], 100, &[], 4, b""),
         (&[], 5, &[], 5, b"1: pa"),
         (&[], 100, &[1], 5, b""),
-        (&[], 100, &[2], 0, b"1: part (0,0) = y\n1: part (1,1) = 2*x+1\n"),
+        (
+            &[],
+            100,
+            &[2],
+            0,
+            b"1: part (0,0) = y\n1: part (1,1) = 2*x+1\n",
+        ),
     ];
     for (reads, room, writes, status, output) in rows {
         let mut source = MemorySource::new(alloc, session, 10, reads)?;

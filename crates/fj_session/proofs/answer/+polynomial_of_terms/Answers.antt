@@ -30,7 +30,7 @@ pub returns-clause-value : goal.returns-clause-value
 returns-clause-value g t c =
     let whole : c.split_at.result.0.now ++ c.split_at.result.1.now ≡ c.args.terms.now = ap₂ (λ xs ys. xs ++ ys) c.split_at.ensures.front c.split_at.ensures.back ∙ take-append-drop _ c.args.terms.now in
     let both : sum g.K.Coeff.field c.in_ok-first.first c.in_ok-second.second ≡ declared g.K.Coeff.field (values_of c.args.terms.now) =
-        ap₂ (sum g.K.Coeff.field) c.in_ok-first.ensures.value c.in_ok-second.ensures.value
-        ∙ sym (declared-append g.met.K.Coeff.lawful (values_of c.split_at.result.0.now) (values_of c.split_at.result.1.now) (each_eight c.split_at.result.0.now) (each_eight c.split_at.result.1.now))
-        ∙ ap (declared g.K.Coeff.field) (sym (map-append value_of c.split_at.result.0.now c.split_at.result.1.now) ∙ ap values_of whole) in
+    ap₂ (sum g.K.Coeff.field) c.in_ok-first.ensures.value c.in_ok-second.ensures.value
+    ∙ sym (declared-append g.met.K.Coeff.lawful (values_of c.split_at.result.0.now) (values_of c.split_at.result.1.now) (each_eight c.split_at.result.0.now) (each_eight c.split_at.result.1.now))
+    ∙ ap (declared g.K.Coeff.field) (sym (map-append value_of c.split_at.result.0.now c.split_at.result.1.now) ∙ ap values_of whole) in
     if_ok c.add.result _ _ (λ p is. is ∙ both) c.add.ensures.value

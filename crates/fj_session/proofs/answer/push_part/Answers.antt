@@ -18,6 +18,6 @@ returns g c =
     let poly : List ℕ = polynomial_bytes names c.args.part.now.poly in
     c.in_ok-push.ensures.items
     ∙ ap (λ s. s ++ 10 ∷ []) (c.in_ok-push_polynomial.ensures ∙ ap (λ s. s ++ poly) (c.in_ok-extend_from_slice-2.ensures.items
-        ∙ ap (λ s. s ++ codes " = ") (c.in_ok-push_residue.ensures ∙ ap (λ s. s ++ residue) (c.in_ok-extend_from_slice.ensures.items ∙ ap (λ s. s ++ codes ": part ") c.in_ok-push_decimal.ensures))))
+    ∙ ap (λ s. s ++ codes " = ") (c.in_ok-push_residue.ensures ∙ ap (λ s. s ++ residue) (c.in_ok-extend_from_slice.ensures.items ∙ ap (λ s. s ++ codes ": part ") c.in_ok-push_decimal.ensures))))
     ∙ regrouped c.args.out.now.items number (codes ": part ") residue (codes " = ") poly (codes "\n")
     ∙ ap₂ (λ k r. c.args.out.now.items ++ (number ++ codes ": part " ++ residue_bytes (take k r) ++ codes " = " ++ poly ++ codes "\n")) (sym (length-map c.args.names.now _)) c.exponents.ensures
