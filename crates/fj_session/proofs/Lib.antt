@@ -4,7 +4,6 @@ pub mod Fronts
 pub mod Found
 pub mod Gathered
 pub mod Items
-pub mod KnownBytes
 pub mod ListLoop
 pub mod Lines
 pub mod Places

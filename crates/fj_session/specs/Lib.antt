@@ -1,7 +1,5 @@
 pub mod Form
 pub mod Held
-pub mod Memory
-pub mod Outside
 pub mod Reading
 pub mod Program
 pub mod Text

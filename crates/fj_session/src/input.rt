@@ -2,10 +2,10 @@
 ghost use Rattle.std.specs.Prelude.{◌≡◌, ◌+◌, ◌≤◌, ◌⊎◌, length, take, vec_len, IfOk, IsErrOf};
 ghost use Rattle.std.specs.Io.{ReadsAtMost};
 ghost use Rattle.std.specs.Io.KnownBytes.{Consumes, IsAtEnd};
-ghost use Rattle.fj_session.specs.Outside.{Rose, HasCause};
+ghost use Rattle.fj_io.specs.Outside.{Rose, HasCause};
 ghost use Rattle.fj_session.specs.declared.input.ReadFault.TheVariants.{Failed as ReadFailed, Memory};
 
-use super::outside::{Failed, Source};
+use fj_io::{Failed, Source};
 use std::alloc::{AllocError, Global};
 use thiserror::Error;
 

@@ -4,7 +4,6 @@
 mod answer;
 mod form;
 mod input;
-pub mod outside;
 mod program;
 mod scan;
 mod sum;

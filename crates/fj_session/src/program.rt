@@ -1,7 +1,7 @@
 //! The program's one call: a session is read, answered and written.
 ghost use Rattle.std.specs.Prelude.{◌≡◌, ◌≢◌, ◌≤◌, ◌<◌, ◌↔◌, ◌∷◌, [], ℕ, List, Contains, IsTrue, IfOk};
 ghost use Rattle.std.specs.Io.KnownBytes.{Appends};
-ghost use Rattle.fj_session.specs.Outside.{AppendsFront, Rose};
+ghost use Rattle.fj_io.specs.Outside.{AppendsFront, Rose};
 ghost use Rattle.fj_session.specs.Program.{AreRun, IsOutcome, IsRun, texts_of};
 
 #[cfg(test)]
@@ -10,7 +10,7 @@ mod tests;
 use super::answer::answer;
 use super::form::{FormFault, read_form};
 use super::input::{ReadFault, read_session};
-use super::outside::{Sink, Source};
+use fj_io::{Sink, Source};
 use std::alloc::{AllocError, Global};
 
 /// The usage line was written.

@@ -2,7 +2,7 @@
 //! is `fj_session::run`'s own; status 8 is main's, where the system doesn't give the words.
 #![tactic(auto)]
 
-use fj_session::outside::{StdSink, StdSource};
+use fj_io::{StdSink, StdSource};
 use fj_session::run;
 use std::alloc::AllocError;
 use std::env::{self, Args};

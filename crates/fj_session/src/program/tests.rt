@@ -1,6 +1,6 @@
 //! Whole sessions through a source and a sink in memory.
-use crate::outside::{MemorySink, MemorySource};
 use crate::program::run;
+use fj_io::{MemorySink, MemorySource};
 use std::test::Fail;
 
 #[test]

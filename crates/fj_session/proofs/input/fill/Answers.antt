@@ -4,7 +4,7 @@ use Rattle.std.proofs.lemmas.Grind.{common_steps}
 use Rattle.std.proofs.lemmas.List.{length-take-le, take-append-le}
 use borrow.Rule.Slice.PartMut.{put_mid, post_of}
 use Rattle.std.specs.Io.KnownBytes.{Consumes}
-use Rattle.fj_session.proofs.KnownBytes.{consumes_more}
+use Rattle.fj_io.proofs.KnownBytes.{consumes_more}
 use Rattle.fj_session.proofs.input.fill.Goals as goal
 
 -- the front of a list whose bytes from n on were written

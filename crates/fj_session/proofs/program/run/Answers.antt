@@ -1,7 +1,7 @@
 use Rattle.std.proofs.Common.{◌≡◌, ◌≤◌, ◌⊎◌, codes, refl, inl, inr, arith, sym, ◌∙◌, subst}
 use Rattle.std.proofs.lemmas.Bool.{true≢false}
 use Rattle.std.specs.Io.KnownBytes.{IsAtEnd}
-use Rattle.fj_session.specs.Outside.{AppendsFront}
+use Rattle.fj_io.specs.Outside.{AppendsFront}
 use Rattle.fj_session.specs.Program.{IsOutcome}
 use Rattle.fj_session.proofs.program.run.Goals as goal
 

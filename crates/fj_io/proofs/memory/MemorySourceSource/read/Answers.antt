@@ -1,7 +1,7 @@
 use Rattle.std.proofs.Common.{◌<◌, length, arith}
 use Rattle.std.proofs.lemmas.Grind.{common_steps}
-use Rattle.fj_session.proofs.KnownBytes.{given_and_left, none_left}
-use Rattle.fj_session.proofs.outside.memory.MemorySourceSource.read.Goals as goal
+use Rattle.fj_io.proofs.KnownBytes.{given_and_left, none_left}
+use Rattle.fj_io.proofs.memory.MemorySourceSource.read.Goals as goal
 
 pub returns-clause-bytes : goal.returns-clause-bytes
 returns-clause-bytes c = (

@@ -1,7 +1,7 @@
 -- A source and a sink in memory, whose calls fail by a list of their numbers.
 use Rattle.std.specs.Prelude.{ℕ, ◌==◌, ◌-◌, ◌^◌, min, Bool, nat_lt, nat_le, not, ◌&&◌, ◌||◌, List, [], ◌++◌, length, take, drop, if◌then◌else◌}
 use Rattle.std.specs.List.{list_any}
-use Rattle.fj_session.specs.Outside.{next_count}
+use Rattle.fj_io.specs.Outside.{next_count}
 
 -- the numbers of the calls that fail, how many calls were made, and how many failed
 pub record Schedule : Type 0 where

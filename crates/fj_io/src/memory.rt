@@ -2,8 +2,8 @@
 ghost use Rattle.std.specs.Prelude.{◌≡◌, ◌↔◌, ◌+◌, ◌<◌, ◌≤◌, [], ◌++◌, length, take, drop, IsTrue, IfOk, OnOk, OnErr, IsOk, IsErr};
 ghost use Rattle.std.specs.Io.{ReadsAtMost};
 ghost use Rattle.std.specs.Io.KnownBytes.{Appends, ReadConsumes};
-ghost use Rattle.fj_session.specs.Outside.{next_count, HasCause, AppendsFront};
-ghost use Rattle.fj_session.specs.Memory.{first_schedule, after_call, after_fault, is_listed, given_count, after_giving, after_failed_read, is_taken_whole, after_taking, after_failed_write};
+ghost use Rattle.fj_io.specs.Outside.{next_count, HasCause, AppendsFront};
+ghost use Rattle.fj_io.specs.Memory.{first_schedule, after_call, after_fault, is_listed, given_count, after_giving, after_failed_read, is_taken_whole, after_taking, after_failed_write};
 
 use super::{Failed, Sink, Source};
 use std::alloc::{AllocError, Global};
@@ -18,7 +18,7 @@ struct CallSchedule {
 }
 
 impl Model for CallSchedule {
-    ghost use Rattle.fj_session.specs.Memory.{Schedule};
+    ghost use Rattle.fj_io.specs.Memory.{Schedule};
 
     ghost Value = { Schedule };
 
@@ -66,7 +66,7 @@ pub struct MemorySource {
 
 impl Model for MemorySource {
     ghost use Rattle.std.specs.Prelude.{◌≤◌, ◌<◌, drop, length};
-    ghost use Rattle.fj_session.specs.Memory.{Input};
+    ghost use Rattle.fj_io.specs.Memory.{Input};
 
     ghost Value = { Input };
 
@@ -138,7 +138,7 @@ pub struct MemorySink {
 
 impl Model for MemorySink {
     ghost use Rattle.std.specs.Prelude.{◌≤◌, vec_len, vec_capacity};
-    ghost use Rattle.fj_session.specs.Memory.{Output};
+    ghost use Rattle.fj_io.specs.Memory.{Output};
 
     ghost Value = { Output };
 

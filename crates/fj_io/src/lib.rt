@@ -1,9 +1,11 @@
 //! The outside: where a session is read from, and where its answers go.
+#![tactic(auto)]
+
 ghost use Rattle.std.specs.Prelude.{◌≡◌, ◌<◌, ℕ, List, [], length, IsOk, OnOk, OnErr};
 ghost use Rattle.std.specs.declared.option.Option.{Option};
 ghost use Rattle.std.specs.Io.{ReadsAtMost};
 ghost use Rattle.std.specs.Io.KnownBytes.{Appends, ReadConsumes};
-ghost use Rattle.fj_session.specs.Outside.{HasCause, AppendsFront};
+ghost use Rattle.fj_io.specs.Outside.{HasCause, AppendsFront};
 
 mod memory;
 mod standard;

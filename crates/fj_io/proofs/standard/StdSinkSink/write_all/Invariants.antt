@@ -1,6 +1,6 @@
 use Rattle.std.proofs.Common.{◌≡◌, ℕ, drop, take, length}
 use Rattle.std.specs.Io.KnownBytes.{Appends}
-use Rattle.fj_session.proofs.outside.standard.StdSinkSink.write_all.Given as goal
+use Rattle.fj_io.proofs.standard.StdSinkSink.write_all.Given as goal
 
 -- so many bytes of the piece were written, and no fault came
 abbrev pub invariant-loop-rest : goal.invariant-loop-rest

@@ -2,9 +2,9 @@ use Rattle.std.proofs.Common.{ℕ, ◌+◌, ◌++◌, List, drop, take, subst, s
 use Rattle.std.proofs.Math.Seq.{take-add}
 use Rattle.std.proofs.lemmas.List.{take_rest, drop-drop}
 use Rattle.std.specs.Io.KnownBytes.{Appends}
-use Rattle.fj_session.proofs.KnownBytes.{appends_more, appends_keeps, appends_none}
-use Rattle.fj_session.proofs.outside.standard.StdSinkSink.write_all.Goals as goal
-use Rattle.fj_session.proofs.outside.standard.StdSinkSink.write_all.Goals.{in_default-via-in-Ok+else-count-gt0, in_default-via-in_default}
+use Rattle.fj_io.proofs.KnownBytes.{appends_more, appends_keeps, appends_none}
+use Rattle.fj_io.proofs.standard.StdSinkSink.write_all.Goals as goal
+use Rattle.fj_io.proofs.standard.StdSinkSink.write_all.Goals.{in_default-via-in-Ok+else-count-gt0, in_default-via-in_default}
 
 pub loop-rest-preserved : goal.loop-rest-preserved
 loop-rest-preserved g c =
