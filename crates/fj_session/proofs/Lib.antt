@@ -13,3 +13,4 @@ pub mod Terms
 pub mod Texts
 pub mod AnswerTexts
 pub mod Declared
+pub mod Primes
