@@ -1,5 +1,5 @@
 -- What the reader of a form found, and what it refused.
-use Rattle.std.proofs.Common.{◌≡◌, ◌≤◌, ℕ, List, true, length, arith, Option, Some, None, Result, Ok, Err, refl, sym, ap, subst, ◌∙◌}
+use Rattle.std.proofs.Common.{◌≡◌, ◌≤◌, ℕ, List, length, arith, Contains, Option, Some, None, Result, Ok, Err, refl, sym, ap, subst, ◌∙◌}
 use Rattle.std.specs.Prelude.{IfOk, IsErrOf}
 use Rattle.std.specs.Global.{Vec}
 use Rattle.std.specs.Option.{option_map}
@@ -7,7 +7,8 @@ use Rattle.std.proofs.lemmas.List.{length-map}
 use Rattle.fj_session.specs.declared.form.Form.{Form}
 use Rattle.fj_session.specs.declared.form.FormFault.{FormFault}
 use Rattle.fj_session.specs.declared.form.FormFault.TheVariants as faults
-use Rattle.fj_session.specs.Form.{FormText, IsForm, is_prime, spelling}
+use Rattle.fj_session.specs.Form.{FormText, IsForm, spelling}
+use Rattle.fj_coeff.specs.Field.{primes}
 use Rattle.fj_session.specs.Held.{Holds, form_value, held_value}
 use Rattle.fj_session.specs.Reading.{Gives, form_at}
 use Rattle.fj_session.proofs.Fronts.{some_is}
@@ -26,9 +27,10 @@ found_text bytes form (Some text) e h =
       law.0,
       law.1,
       record {
-        prime = sym (ap (λ (v : ℕ × List (List ℕ) × List (ℕ × List ℕ)). v.0) value);
-        variables = sym (ap (λ (v : ℕ × List (List ℕ) × List (ℕ × List ℕ)). v.1) value);
-        terms = sym (ap (λ (v : ℕ × List (List ℕ) × List (ℕ × List ℕ)). v.2) value);
+        prime = sym (ap (λ (v : ℕ × List (List ℕ) × List (ℕ × List ℕ) × ℕ). v.0) value);
+        variables = sym (ap (λ (v : ℕ × List (List ℕ) × List (ℕ × List ℕ) × ℕ). v.1) value);
+        terms = sym (ap (λ (v : ℕ × List (List ℕ) × List (ℕ × List ℕ) × ℕ). v.2) value);
+        e = sym (ap (λ (v : ℕ × List (List ℕ) × List (ℕ × List ℕ) × ℕ). v.3) value);
       },
     )
 
@@ -43,9 +45,13 @@ is_refused bytes r given refused text good same =
     let some : option_map form_value (form_at bytes) ≡ Some (form_value text) = ap (option_map form_value) (ap form_at same ∙ form_again text good) in
     cc
 
-pub found_prime : (bytes : List ℕ) (r : Result Form FormFault) → IfOk r (IsFound bytes) → IfOk r (λ form. is_prime form.prime ≡ true)
-found_prime bytes (Ok form) found = subst (λ (p : ℕ). is_prime p ≡ true) (sym found.3.prime) found.1.prime
+pub found_prime : (bytes : List ℕ) (r : Result Form FormFault) → IfOk r (IsFound bytes) → IfOk r (λ form. Contains primes form.prime)
+found_prime bytes (Ok form) found = subst (λ (p : ℕ). Contains primes p) (sym found.3.prime) found.1.prime
 found_prime bytes (Err fault) found = tt
+
+pub found_e : (bytes : List ℕ) (r : Result Form FormFault) → IfOk r (IsFound bytes) → IfOk r (λ form. form.e ≤ 12)
+found_e bytes (Ok form) found = subst (λ (e : ℕ). e ≤ 12) (sym found.3.e) found.1.small_e
+found_e bytes (Err fault) found = tt
 
 pub found_few : (bytes : List ℕ) (r : Result Form FormFault) → IfOk r (IsFound bytes) → IfOk r (λ form. length form.variables.items ≤ 7)
 found_few bytes (Ok form) found = omega (arith, found.1.few_variables, ap length found.3.variables, length-map form.variables.items (λ (w : Vec ℕ). w.items))

@@ -12,3 +12,4 @@ pub mod Terms
 pub mod Texts
 pub mod AnswerTexts
 pub mod Declared
+pub mod Primes

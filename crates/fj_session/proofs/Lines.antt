@@ -1,18 +1,24 @@
 -- The lines of a form, and the form: what is read is spelled so, and what is spelled so is read.
-use Rattle.std.proofs.Common.{◌≡◌, ℕ, ◌^◌, ◌<◌, ◌≤◌, Bool, true, false, not, ◌&&◌, eqb, leb, List, [], ◌∷◌, ◌++◌, length, get_or, map, Some, refl, sym, ap, subst, ◌∙◌, append_assoc, append-nil, inl, inr, arith}
+use Rattle.std.proofs.Common.{◌≡◌, ℕ, ◌^◌, ◌<◌, ◌≤◌, Bool, true, false, not, ◌&&◌, eqb, leb, List, [], ◌∷◌, ◌++◌, length, get_or, map, Contains, Option, None, Some, refl, sym, ap, subst, ◌∙◌, append_assoc, append-nil, inl, inr, arith}
 use Rattle.std.specs.Prelude.{codes, decimal}
 use Rattle.std.specs.List.{AllByRecursion, IsDistinct, list_any}
 use Rattle.std.specs.Str.{bytes_eq}
 use Rattle.std.specs.Str.Parse.{digits_value}
-use Rattle.std.proofs.lemmas.Bool.{and_parts, and_from, or_cases, or_parts, or_from, eqb-true, eqb-false, ne_eqb, not-true, not_from_false, leb-true, le-leb}
+use Rattle.std.proofs.lemmas.Bool.{and_parts, and_from, or_parts, or_from, eqb-true, eqb-false, eq-eqb, ne_eqb, cases_eq, not-true, not_from_false, leb-true, le-leb}
 use Rattle.std.proofs.lemmas.Fmt.{decimal-digits_value, digits_decimal, digits_value-decimal, length-decimal-le, decimal_nonempty, first_decimal}
 use Rattle.std.proofs.lemmas.List.{map-id, nil_from_length}
 use Rattle.std.proofs.lemmas.Slice.Eq.{bytes_eq-Decides}
+use Rattle.std.proofs.lemmas.Map.Keys.{any_passes_from_place}
+use Rattle.std.proofs.lemmas.Map.Views.{Contains-from_any}
+use Rattle.std.proofs.lemmas.Option.{slice_get-get_or}
+use Rattle.std.specs.Option.{option_map_or}
 use Rattle.std.proofs.lemmas.Bool.Decides.{same_from_decides, Decides-like}
-use Rattle.fj_session.specs.Form.{TermText, FormText, primes, IsWord, IsNumber, IsTerm, IsForm, is_prime, is_among, is_word_byte, joined, term_text, spelling}
-use Rattle.fj_session.specs.Reading.{◌>>=◌, checked, after, word_at, number_at, listed, prime_at, are_distinct, variables_at, ring_line_at, terms_at, poly_line_at, ask_line_at, form_at}
+use Rattle.fj_coeff.specs.Field.{primes}
+use Rattle.fj_coeff.specs.PrimeFieldLaws.{prime_bounds}
+use Rattle.fj_session.specs.Form.{TermText, FormText, IsWord, IsNumber, IsTerm, IsForm, is_among, is_word_byte, joined, term_text, spelling}
+use Rattle.fj_session.specs.Reading.{◌>>=◌, checked, after, word_at, number_at, listed, is_prime, prime_at, are_distinct, variables_at, ring_line_at, terms_at, poly_line_at, e_at, ask_line_at, form_at}
 use Rattle.fj_session.proofs.Digits.{numerals, number_small}
-use Rattle.fj_session.proofs.Fronts.{bind_some, checked_some, some_is, after_takes, after_again, word_takes, word_again, number_takes, number_again, EndsWord}
+use Rattle.fj_session.proofs.Fronts.{bind_some, checked_some, some_is, after_takes, after_again, word_takes, word_again, number_takes, number_again, after_none, EndsWord}
 use Rattle.fj_session.proofs.Items.{Items, AreItems, listed_takes, listed_again}
 use Rattle.fj_session.proofs.Terms.{terms, terms_are}
 
@@ -33,26 +39,18 @@ prime_takes bytes x e =
     let value : decimal (digits_value 10 a.0.0) ≡ a.0.0 = decimal-digits_value numerals a.0.0 number.1.digit number.1.some no_zero (omega (arith, number_small a.0.0 number.1)) in
     subst (λ (y : ℕ × List ℕ). (bytes ≡ decimal y.0 ++ y.1) × (is_prime y.0 ≡ true)) h.1 (number.0 ∙ ap (λ t. t ++ a.0.1) (sym value), both.1)
 
-abbrev IsSmall : ℕ → Type 0
-IsSmall p = (0 < p) × (p < 100)
+-- the test is that of the table
+prime_tested : (p : ℕ) → is_prime p ≡ true → Contains primes p
+prime_tested p h = Contains-from_any {eq = λ a b. eqb b a} (λ x y e. sym (eqb-true y x e)) p primes h
 
-any_small : (ns : List ℕ) (p : ℕ) → AllByRecursion IsSmall ns → list_any (λ q. eqb q p) ns ≡ true → IsSmall p
-any_small [] p small h = absurd cc
-any_small (n ∷ ns) p small h =
-    elim (or_cases (eqb n p) (list_any (λ q. eqb q p) ns) h) [
-      | inl here ↦ subst IsSmall (eqb-true n p here) small.0
-      | inr there ↦ any_small ns p small.1 there
-    ]
-
-prime_bounds : (p : ℕ) → is_prime p ≡ true → IsSmall p
-prime_bounds p h =
-    any_small primes p ((omega arith, omega arith), ((omega arith, omega arith), ((omega arith, omega arith), ((omega arith, omega arith), ((omega arith, omega arith), ((omega arith, omega arith), tt)))))) h
+prime_passes : (p : ℕ) → Contains primes p → is_prime p ≡ true
+prime_passes p h = any_passes_from_place (λ q. eqb q p) primes h.0 p (slice_get-get_or primes h.0 p h.1 ∙ ap Some h.2) (eq-eqb p p refl)
 
 prime_again : (p : ℕ) (rest : List ℕ) → is_prime p ≡ true → EndsWord rest → prime_at (decimal p ++ rest) ≡ Some (p, rest)
 unfolding prime_at
 prime_again p rest prime end =
-    let bounds = prime_bounds p prime in
-    let low : 0 < p = bounds.0 in
+    let bounds = prime_bounds p (prime_tested p prime) in
+    let low : 0 < p = omega arith in
     let small : p < 2 ^ 64 = omega arith in
     let value : digits_value 10 (decimal p) ≡ p = digits_value-decimal numerals p small in
     let some = decimal_nonempty p small in
@@ -213,24 +211,83 @@ poly_again variables name ts rest word good some few =
       after_again (codes "\n") rest,
     ) refl
 
-abbrev ask_text : List ℕ → List ℕ
-ask_text name = codes "ask parts 1 " ++ name ++ codes "\n"
+-- a zero alone
+decimal_zero : decimal 0 ≡ codes "0"
+decimal_zero = decimal-digits_value numerals (codes "0") refl (omega arith) (λ _. refl) (omega arith)
 
-ask_takes : (name bytes rest : List ℕ) → ask_line_at name bytes ≡ Some rest → bytes ≡ ask_text name ++ rest
-unfolding ask_line_at
-ask_takes name bytes rest e =
-    let a = bind_some (after (codes "ask parts 1 ") bytes) (λ ask. after name ask >>= λ named. after (codes "\n") named) rest e in
-    let b = bind_some (after name a.0) (λ named. after (codes "\n") named) rest a.2 in
-    let e1 = after_takes (codes "ask parts 1 ") bytes a.0 a.1 in
-    let e2 = two_parts bytes (codes "ask parts 1 ") a.0 name b.0 e1 (after_takes name a.0 b.0 b.1) in
-    two_parts bytes (codes "ask parts 1 " ++ name) b.0 (codes "\n") rest e2 (after_takes (codes "\n") b.0 rest b.2)
+zero_takes : (bytes rest : List ℕ) → after (codes "0") bytes ≡ Some rest → bytes ≡ decimal 0 ++ rest
+zero_takes bytes rest e = after_takes (codes "0") bytes rest e ∙ ap (λ s. s ++ rest) (sym decimal_zero)
 
-ask_again : (name rest : List ℕ) → ask_line_at name (ask_text name ++ rest) ≡ Some rest
+-- where no zero is in front, none begins the number
+no_zero_in_front : (bytes : List ℕ) → after (codes "0") bytes ≡ None → get_or bytes 0 0 ≡ 48 → ⊥
+no_zero_in_front [] none zero = absurd (omega arith)
+no_zero_in_front (b ∷ bytes) none zero =
+    let found : after (codes "0") (48 ∷ bytes) ≡ Some bytes = after_again (codes "0") bytes in
+    let same : after (codes "0") (48 ∷ bytes) ≡ None = subst (λ (d : ℕ). after (codes "0") (d ∷ bytes) ≡ None) zero none in
+    absurd cc
+
+e_takes : (bytes : List ℕ) (x : ℕ × List ℕ) → e_at bytes ≡ Some x → (bytes ≡ decimal x.0 ++ x.1) × (x.0 ≤ 12)
+unfolding e_at
+e_takes bytes x e = by (after (codes "0") bytes) refl e
+  where
+    rest_of : Option (ℕ × List ℕ)
+    rest_of = number_at bytes >>= λ number. checked (leb (digits_value 10 number.0) 12) (digits_value 10 number.0, number.1)
+
+    by : (o : Option (List ℕ)) → after (codes "0") bytes ≡ o → option_map_or (λ rest. Some (0, rest)) o rest_of ≡ Some x → (bytes ≡ decimal x.0 ++ x.1) × (x.0 ≤ 12)
+    by (Some rest) found h = subst (λ (y : ℕ × List ℕ). (bytes ≡ decimal y.0 ++ y.1) × (y.0 ≤ 12)) (some_is (0, rest) x h) (zero_takes bytes rest found, omega arith)
+    by None none h =
+        let a = bind_some (number_at bytes) (λ number. checked (leb (digits_value 10 number.0) 12) (digits_value 10 number.0, number.1)) x h in
+        let c = checked_some (leb (digits_value 10 a.0.0) 12) (digits_value 10 a.0.0, a.0.1) x a.2 in
+        let number = number_takes bytes a.0 a.1 in
+        let no_zero : (get_or a.0.0 0 0 ≡ 48) → length a.0.0 ≡ 1 = λ zero. absurd (no_zero_in_front bytes none (first_of a.0.0 a.0.1 bytes number.0 number.1.some ∙ zero)) in
+        let value : decimal (digits_value 10 a.0.0) ≡ a.0.0 = decimal-digits_value numerals a.0.0 number.1.digit number.1.some no_zero (omega (arith, number_small a.0.0 number.1)) in
+        subst (λ (y : ℕ × List ℕ). (bytes ≡ decimal y.0 ++ y.1) × (y.0 ≤ 12)) c.1 (number.0 ∙ ap (λ t. t ++ a.0.1) (sym value), leb-true _ _ c.0)
+
+e_again : (e : ℕ) (rest : List ℕ) → e ≤ 12 → EndsWord rest → e_at (decimal e ++ rest) ≡ Some (e, rest)
+unfolding e_at
+e_again e rest few end = elim (cases_eq e 0) [
+  | inl zero ↦ subst (λ (n : ℕ). e_at (decimal n ++ rest) ≡ Some (n, rest)) (sym zero) (ap (λ s. e_at (s ++ rest)) decimal_zero ∙ rw (after_again (codes "0") rest) refl)
+  | inr other ↦
+      let low : 0 < e = omega arith in
+      let small : e < 2 ^ 64 = omega arith in
+      let value : digits_value 10 (decimal e) ≡ e = digits_value-decimal numerals e small in
+      let some = decimal_nonempty e small in
+      let number : IsNumber (decimal e) = record { digit = digits_decimal numerals e small; some = some; few = length-decimal-le 4 e (omega arith) (omega arith) small } in
+      let no_zero : eqb (get_or (decimal e ++ rest) 0 0) 48 ≡ false = ne_eqb _ _ (λ zero. absurd (omega (arith, first_decimal e low small, first_of (decimal e) rest (decimal e ++ rest) refl some, zero))) in
+      let within : leb e 12 ≡ true = le-leb _ _ few in
+      rw (after_none 48 [] (decimal e ++ rest) no_zero, number_again (decimal e) rest number end, value, within) refl
+]
+
+abbrev ask_text : ℕ → List ℕ → List ℕ
+ask_text e name = codes "ask parts " ++ decimal e ++ codes " " ++ name ++ codes "\n"
+
+record TakesAsk (name bytes : List ℕ) (x : ℕ × List ℕ) : Type 0 where
+  parts : bytes ≡ ask_text x.0 name ++ x.1
+  small : x.0 ≤ 12
+
+ask_takes : (name bytes : List ℕ) (x : ℕ × List ℕ) → ask_line_at name bytes ≡ Some x → TakesAsk name bytes x
 unfolding ask_line_at
-ask_again name rest =
+ask_takes name bytes x e =
+    let a = bind_some (after (codes "ask parts ") bytes) (λ ask. e_at ask >>= λ e. after (codes " ") e.1 >>= λ blank. after name blank >>= λ named. after (codes "\n") named >>= λ rest. Some (e.0, rest)) x e in
+    let b = bind_some (e_at a.0) (λ e. after (codes " ") e.1 >>= λ blank. after name blank >>= λ named. after (codes "\n") named >>= λ rest. Some (e.0, rest)) x a.2 in
+    let c = bind_some (after (codes " ") b.0.1) (λ blank. after name blank >>= λ named. after (codes "\n") named >>= λ rest. Some (b.0.0, rest)) x b.2 in
+    let d = bind_some (after name c.0) (λ named. after (codes "\n") named >>= λ rest. Some (b.0.0, rest)) x c.2 in
+    let f = bind_some (after (codes "\n") d.0) (λ rest. Some (b.0.0, rest)) x d.2 in
+    let number = e_takes a.0 b.0 b.1 in
+    let e1 = after_takes (codes "ask parts ") bytes a.0 a.1 in
+    let e2 = two_parts bytes (codes "ask parts ") a.0 (decimal b.0.0) b.0.1 e1 number.0 in
+    let e3 = two_parts bytes (codes "ask parts " ++ decimal b.0.0) b.0.1 (codes " ") c.0 e2 (after_takes (codes " ") b.0.1 c.0 c.1) in
+    let e4 = two_parts bytes (codes "ask parts " ++ decimal b.0.0 ++ codes " ") c.0 name d.0 e3 (after_takes name c.0 d.0 d.1) in
+    let e5 = two_parts bytes (codes "ask parts " ++ decimal b.0.0 ++ codes " " ++ name) d.0 (codes "\n") f.0 e4 (after_takes (codes "\n") d.0 f.0 f.1) in
+    subst (λ (y : ℕ × List ℕ). TakesAsk name bytes y) (some_is (b.0.0, f.0) x f.2) (record { parts = e5; small = number.1 })
+
+ask_again : (e : ℕ) (name rest : List ℕ) → e ≤ 12 → ask_line_at name (ask_text e name ++ rest) ≡ Some (e, rest)
+unfolding ask_line_at
+ask_again e name rest few =
     let end = codes "\n" ++ rest in
-    ap (ask_line_at name) (append_assoc (codes "ask parts 1 " ++ name) (codes "\n") rest ∙ append_assoc (codes "ask parts 1 ") name end)
-    ∙ rw (after_again (codes "ask parts 1 ") (name ++ end), after_again name end, after_again (codes "\n") rest) refl
+    let blank = codes " " ++ (name ++ end) in
+    ap (ask_line_at name) (five_parts (codes "ask parts ") (decimal e) (codes " ") name (codes "\n") rest)
+    ∙ rw (after_again (codes "ask parts ") (decimal e ++ blank), e_again e blank few refl, after_again (codes " ") (name ++ end), after_again name end, after_again (codes "\n") rest) refl
 
 -- ---- the form
 
@@ -238,8 +295,8 @@ ask_again name rest =
 three_lines : (bytes a b c : List ℕ) → bytes ≡ (a ++ b) ++ c → bytes ≡ a ++ (b ++ (c ++ []))
 three_lines bytes a b c e = e ∙ append_assoc a b c ∙ ap (λ s. a ++ (b ++ s)) (sym (append-nil c))
 
-made_form : ℕ → List (List ℕ) → List ℕ → List TermText → FormText
-made_form prime variables name terms = record { prime = prime; variables = variables; name = name; terms = terms }
+made_form : ℕ → List (List ℕ) → List ℕ → List TermText → ℕ → FormText
+made_form prime variables name terms e = record { prime = prime; variables = variables; name = name; terms = terms; e = e }
 
 abbrev is_ended : List (List ℕ) → List ℕ → List ℕ → Bool
 is_ended variables name rest = eqb (length rest) 0 && not (is_among variables name)
@@ -248,31 +305,32 @@ is_ended variables name rest = eqb (length rest) 0 && not (is_among variables na
 pub form_takes : (bytes : List ℕ) (f : FormText) → form_at bytes ≡ Some f → IsForm f × (bytes ≡ spelling f)
 unfolding form_at IsDistinct made_form
 form_takes bytes f e =
-    let a = bind_some (checked (leb (length bytes) 1048576) bytes) (λ short. ring_line_at short >>= λ ring. poly_line_at ring.0.1 ring.1 >>= λ poly. ask_line_at poly.0.0 poly.1 >>= λ rest.
-    checked (is_ended ring.0.1 poly.0.0 rest) (made_form ring.0.0 ring.0.1 poly.0.0 poly.0.1)) f e in
-    let b = bind_some (ring_line_at a.0) (λ ring. poly_line_at ring.0.1 ring.1 >>= λ poly. ask_line_at poly.0.0 poly.1 >>= λ rest.
-    checked (is_ended ring.0.1 poly.0.0 rest) (made_form ring.0.0 ring.0.1 poly.0.0 poly.0.1)) f a.2 in
+    let a = bind_some (checked (leb (length bytes) 1048576) bytes) (λ short. ring_line_at short >>= λ ring. poly_line_at ring.0.1 ring.1 >>= λ poly. ask_line_at poly.0.0 poly.1 >>= λ ask.
+    checked (is_ended ring.0.1 poly.0.0 ask.1) (made_form ring.0.0 ring.0.1 poly.0.0 poly.0.1 ask.0)) f e in
+    let b = bind_some (ring_line_at a.0) (λ ring. poly_line_at ring.0.1 ring.1 >>= λ poly. ask_line_at poly.0.0 poly.1 >>= λ ask.
+    checked (is_ended ring.0.1 poly.0.0 ask.1) (made_form ring.0.0 ring.0.1 poly.0.0 poly.0.1 ask.0)) f a.2 in
     let ring = ring_takes a.0 b.0 b.1 in
     let prime = b.0.0.0 in
     let variables = b.0.0.1 in
-    let c = bind_some (poly_line_at variables b.0.1) (λ poly. ask_line_at poly.0.0 poly.1 >>= λ rest. checked (is_ended variables poly.0.0 rest) (made_form prime variables poly.0.0 poly.0.1)) f b.2 in
+    let c = bind_some (poly_line_at variables b.0.1) (λ poly. ask_line_at poly.0.0 poly.1 >>= λ ask. checked (is_ended variables poly.0.0 ask.1) (made_form prime variables poly.0.0 poly.0.1 ask.0)) f b.2 in
     let poly = poly_takes variables b.0.1 c.0 c.1 in
     let name = c.0.0.0 in
     let sum = c.0.0.1 in
-    let d = bind_some (ask_line_at name c.0.1) (λ rest. checked (is_ended variables name rest) (made_form prime variables name sum)) f c.2 in
+    let d = bind_some (ask_line_at name c.0.1) (λ ask. checked (is_ended variables name ask.1) (made_form prime variables name sum ask.0)) f c.2 in
     let ask = ask_takes name c.0.1 d.0 d.1 in
     let short = checked_some (leb (length bytes) 1048576) bytes a.0 a.1 in
-    let ended = checked_some (is_ended variables name d.0) (made_form prime variables name sum) f d.2 in
-    let both = and_parts (eqb (length d.0) 0) (not (is_among variables name)) ended.0 in
-    let nothing : d.0 ≡ [] = nil_from_length d.0 (eqb-true _ _ both.0) in
+    let ended = checked_some (is_ended variables name d.0.1) (made_form prime variables name sum d.0.0) f d.2 in
+    let both = and_parts (eqb (length d.0.1) 0) (not (is_among variables name)) ended.0 in
+    let e = d.0.0 in
+    let nothing : d.0.1 ≡ [] = nil_from_length d.0.1 (eqb-true _ _ both.0) in
     let front = two_parts a.0 (ring_text prime variables) b.0.1 (poly_text name sum) c.0.1 ring.parts poly.parts in
-    let whole : bytes ≡ spelling (made_form prime variables name sum) =
-    short.1 ∙ two_parts a.0 (ring_text prime variables ++ poly_text name sum) c.0.1 (ask_text name) d.0 front ask
-    ∙ ap (λ rest. ((ring_text prime variables ++ poly_text name sum) ++ ask_text name) ++ rest) nothing ∙ append-nil ((ring_text prime variables ++ poly_text name sum) ++ ask_text name) in
+    let whole : bytes ≡ spelling (made_form prime variables name sum e) =
+    short.1 ∙ two_parts a.0 (ring_text prime variables ++ poly_text name sum) c.0.1 (ask_text e name) d.0.1 front ask.parts
+    ∙ ap (λ rest. ((ring_text prime variables ++ poly_text name sum) ++ ask_text e name) ++ rest) nothing ∙ append-nil ((ring_text prime variables ++ poly_text name sum) ++ ask_text e name) in
     let apart = none_same name variables (sym (among_is name variables) ∙ not-true _ both.1) in
     subst (λ (g : FormText). IsForm g × (bytes ≡ spelling g)) ended.1 (
       record {
-        prime = ring.prime;
+        prime = prime_tested prime ring.prime;
         variables = ring.words;
         some_variables = ring.some;
         few_variables = ring.few;
@@ -281,6 +339,7 @@ form_takes bytes f e =
         terms = poly.terms;
         some_terms = poly.some;
         few_terms = poly.few;
+        small_e = ask.small;
         short = subst (λ (s : List ℕ). length s ≤ 1048576) whole (leb-true _ _ short.0);
       },
       whole,
@@ -289,14 +348,14 @@ form_takes bytes f e =
 form_read : (f : FormText) (bytes : List ℕ) → IsForm f → bytes ≡ spelling f → form_at bytes ≡ Some f
 unfolding form_at IsDistinct
 form_read f bytes good e =
-    let last = ask_text f.name ++ [] in
+    let last = ask_text f.e f.name ++ [] in
     let sum = poly_text f.name f.terms ++ last in
     let short : leb (length bytes) 1048576 ≡ true = le-leb _ _ (subst (λ (s : List ℕ). length s ≤ 1048576) (sym e) good.short) in
     let ring : ring_line_at bytes ≡ Some ((f.prime, f.variables), sum) =
-    ap ring_line_at (three_lines bytes (ring_text f.prime f.variables) (poly_text f.name f.terms) (ask_text f.name) e)
-    ∙ ring_again f.prime f.variables sum good.prime good.variables good.some_variables good.few_variables good.distinct.1 in
+    ap ring_line_at (three_lines bytes (ring_text f.prime f.variables) (poly_text f.name f.terms) (ask_text f.e f.name) e)
+    ∙ ring_again f.prime f.variables sum (prime_passes f.prime good.prime) good.variables good.some_variables good.few_variables good.distinct.1 in
     let apart : is_among f.variables f.name ≡ false = among_is f.name f.variables ∙ none_same_from f.name f.variables good.distinct.0 in
-    rw (short, ring, poly_again f.variables f.name f.terms last good.name good.terms good.some_terms good.few_terms, ask_again f.name [], apart) refl
+    rw (short, ring, poly_again f.variables f.name f.terms last good.name good.terms good.some_terms good.few_terms, ask_again f.e f.name [] good.small_e, apart) refl
 
 -- a form that is spelled is read
 pub form_again : (f : FormText) → IsForm f → form_at (spelling f) ≡ Some f

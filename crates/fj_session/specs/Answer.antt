@@ -33,8 +33,8 @@ abbrev pub parts_bytes : List (List ℕ) → ℕ → List Part → List ℕ
 parts_bytes names number [] = decimal number ++ codes ": none\n"
 parts_bytes names number (part ∷ parts) = flat_map (part_line names number) (part ∷ parts)
 
--- The text of the parts at 1 of the polynomial that terms add up to, over a field.
-pub record IsPartsText (F : Field) (names : List (List ℕ)) (terms : List (ℕ × List ℕ)) (text : List ℕ) : Type 0 where
+-- The text of the parts at e of the polynomial that terms add up to, over a field.
+pub record IsPartsText (F : Field) (e : ℕ) (names : List (List ℕ)) (terms : List (ℕ × List ℕ)) (text : List ℕ) : Type 0 where
   pub parts : List Part
-  pub are_parts : IsParts F (F.characteristic ^ 1) (declared F terms) parts
+  pub are_parts : IsParts F (F.characteristic ^ e) (declared F terms) parts
   pub is : text ≡ parts_bytes names 1 parts

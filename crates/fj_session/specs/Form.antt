@@ -1,12 +1,13 @@
--- The form of a session of three lines: a ring, a sum of terms, and the question for its parts at 1.
+-- The form of a session of three lines: a ring, a sum of terms, and the question for its parts at e.
 -- A form is a tree of the words and numbers of the text; `spelling` is the text, and `terms_of` its meaning.
-use Rattle.std.specs.Prelude.{ℕ, ◌-◌, ◌≤◌, ◌<◌, ◌==◌, Bool, ◌||◌, IsTrue, if◌then◌else◌, List, [], ◌∷◌, ◌++◌, length, map, replicate, IfSome, None, Some, codes, decimal}
+use Rattle.std.specs.Prelude.{ℕ, ◌-◌, ◌≤◌, ◌<◌, ◌==◌, Bool, ◌||◌, IsTrue, if◌then◌else◌, List, [], ◌∷◌, ◌++◌, length, map, replicate, Contains, IfSome, None, Some, codes, decimal}
 use Rattle.std.specs.declared.option.Option.{Option}
 use Rattle.std.specs.Char.{is_ascii_alphabetic, is_ascii_alphanumeric, is_ascii_digit}
 use Rattle.std.specs.List.{AllByRecursion, IsDistinct, flat_map, list_all, list_any, sum_by}
 use Rattle.std.specs.Option.{option_to_list}
 use Rattle.std.specs.Str.{bytes_eq}
 use Rattle.std.specs.Str.Parse.{digits_value}
+use Rattle.fj_coeff.specs.Field.{primes}
 
 -- a variable, and its exponent where one is spelled
 pub record PowerText : Type 0 where
@@ -23,6 +24,7 @@ pub record FormText : Type 0 where
   pub variables : List (List ℕ)
   pub name : List ℕ
   pub terms : List TermText
+  pub e : ℕ
 
 -- ---- spelling
 
@@ -52,19 +54,12 @@ abbrev pub poly_line : FormText → List ℕ
 poly_line f = codes "poly " ++ f.name ++ codes " = " ++ joined (codes "+") (map term_text f.terms) ++ codes "\n"
 
 abbrev pub ask_line : FormText → List ℕ
-ask_line f = codes "ask parts 1 " ++ f.name ++ codes "\n"
+ask_line f = codes "ask parts " ++ decimal f.e ++ codes " " ++ f.name ++ codes "\n"
 
 abbrev pub spelling : FormText → List ℕ
 spelling f = ring_line f ++ poly_line f ++ ask_line f
 
 -- ---- which trees are forms
-
--- the primes of the coefficient fields
-abbrev pub primes : List ℕ
-primes = 2 ∷ 3 ∷ 5 ∷ 7 ∷ 11 ∷ 13 ∷ []
-
-abbrev pub is_prime : ℕ → Bool
-is_prime n = list_any (λ p. p == n) primes
 
 -- an ASCII letter or `_`
 abbrev pub is_word_start : ℕ → Bool
@@ -108,7 +103,7 @@ pub record IsTerm (variables : List (List ℕ)) (t : TermText) : Type 0 where
   pub degree_small : degree t.powers ≤ 1000
 
 pub record IsForm (f : FormText) : Type 0 where
-  pub prime : IsTrue (is_prime f.prime)
+  pub prime : Contains primes f.prime
   pub variables : AllByRecursion IsWord f.variables
   pub some_variables : 0 < length f.variables
   pub few_variables : length f.variables ≤ 7
@@ -117,6 +112,7 @@ pub record IsForm (f : FormText) : Type 0 where
   pub terms : AllByRecursion (IsTerm f.variables) f.terms
   pub some_terms : 0 < length f.terms
   pub few_terms : length f.terms ≤ 1000
+  pub small_e : f.e ≤ 12
   pub short : length (spelling f) ≤ 1048576
 
 -- ---- meaning

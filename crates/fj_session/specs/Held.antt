@@ -17,11 +17,12 @@ pub record Holds (form : Form) (text : FormText) : Type 0 where
   pub prime : form.prime ≡ text.prime
   pub variables : words_of form.variables.items ≡ text.variables
   pub terms : values_of form.terms.items ≡ terms_of text
+  pub e : form.e ≡ text.e
 
 -- what a text means, in one value
-abbrev pub form_value : FormText → ℕ × List (List ℕ) × List (ℕ × List ℕ)
-form_value text = (text.prime, text.variables, terms_of text)
+abbrev pub form_value : FormText → ℕ × List (List ℕ) × List (ℕ × List ℕ) × ℕ
+form_value text = (text.prime, text.variables, terms_of text, text.e)
 
 -- what a form holds, in one value
-abbrev pub held_value : Form → ℕ × List (List ℕ) × List (ℕ × List ℕ)
-held_value form = (form.prime, words_of form.variables.items, values_of form.terms.items)
+abbrev pub held_value : Form → ℕ × List (List ℕ) × List (ℕ × List ℕ) × ℕ
+held_value form = (form.prime, words_of form.variables.items, values_of form.terms.items, form.e)

@@ -32,7 +32,7 @@ pub record IsAnswered (bytes output : List ℕ) : Type 0 where
   pub text : FormText
   pub form : IsForm text
   pub spelled : bytes ≡ spelling text
-  pub answered : IsPartsText (prime_field text.prime) text.variables (terms_of text) output
+  pub answered : IsPartsText (prime_field text.prime) text.e text.variables (terms_of text) output
 
 -- The bytes are the text of no form.
 abbrev pub IsNoForm : List ℕ → Type 0

@@ -3,15 +3,16 @@
 use Rattle.std.specs.Prelude.{◌≡◌, ℕ, zero, suc, ◌==◌, Bool, true, ◌&&◌, not, nat_lt, nat_le, if◌then◌else◌, List, [], ◌∷◌, ◌++◌, length, map, take, drop, slice_index, Result, Ok, Err, None, Some, codes}
 use Rattle.std.specs.declared.option.Option.{Option}
 use Rattle.std.specs.Char.{is_ascii_digit}
-use Rattle.std.specs.List.{prefix_len, position_or_len}
+use Rattle.std.specs.List.{list_any, prefix_len, position_or_len}
 use Rattle.std.specs.Option.{option_map, option_map_or}
 use Rattle.std.specs.Str.{bytes_eq}
 use Rattle.std.specs.Str.Parse.{digits_value}
 use Rattle.std.specs.Borrow.{Bor}
 use Rattle.std.specs.Global.{Vec}
+use Rattle.fj_coeff.specs.Field.{primes}
 use Rattle.fj_session.specs.declared.form.FormFault.{FormFault}
 use Rattle.fj_session.specs.declared.form.FormFault.TheVariants as faults
-use Rattle.fj_session.specs.Form.{PowerText, TermText, FormText, is_prime, is_word_start, is_word_byte, is_among, value_or_one, degree}
+use Rattle.fj_session.specs.Form.{PowerText, TermText, FormText, is_word_start, is_word_byte, is_among, value_or_one, degree}
 
 infixl 10 ◌>>=◌
 abbrev pub ◌>>=◌ : {A B : Type 0} → Option A → (A → Option B) → Option B
@@ -78,6 +79,9 @@ listed item between n bytes = do
   Some (first.0 ∷ others.0, others.1)
 
 -- ---- the first line
+
+abbrev pub is_prime : ℕ → Bool
+is_prime n = list_any (λ p. p == n) primes
 
 -- a prime, spelled without a zero in front
 unfoldable pub prime_at : List ℕ → Option (ℕ × List ℕ)
@@ -165,16 +169,25 @@ poly_line_at variables bytes = do
 
 -- ---- the third line, and the whole
 
-unfoldable pub ask_line_at : List ℕ → List ℕ → Option (List ℕ)
+-- a number up to 12: a zero alone, or a number that doesn't begin with one
+unfoldable pub e_at : List ℕ → Option (ℕ × List ℕ)
+e_at bytes = option_map_or (λ rest. Some (0, rest)) (after (codes "0") bytes) (do
+  number ← number_at bytes
+  checked (nat_le (digits_value 10 number.0) 12) (digits_value 10 number.0, number.1))
+
+unfoldable pub ask_line_at : List ℕ → List ℕ → Option (ℕ × List ℕ)
 ask_line_at name bytes = do
-  ask ← after (codes "ask parts 1 ") bytes
-  named ← after name ask
-  after (codes "\n") named
+  ask ← after (codes "ask parts ") bytes
+  e ← e_at ask
+  blank ← after (codes " ") e.1
+  named ← after name blank
+  rest ← after (codes "\n") named
+  Some (e.0, rest)
 
 unfoldable pub form_at : List ℕ → Option FormText
 form_at bytes = do
   short ← checked (nat_le (length bytes) 1048576) bytes
   ring ← ring_line_at short
   poly ← poly_line_at ring.0.1 ring.1
-  rest ← ask_line_at poly.0.0 poly.1
-  checked (length rest == 0 && not (is_among ring.0.1 poly.0.0)) (record { prime = ring.0.0; variables = ring.0.1; name = poly.0.0; terms = poly.0.1 })
+  ask ← ask_line_at poly.0.0 poly.1
+  checked (length ask.1 == 0 && not (is_among ring.0.1 poly.0.0)) (record { prime = ring.0.0; variables = ring.0.1; name = poly.0.0; terms = poly.0.1; e = ask.0 })

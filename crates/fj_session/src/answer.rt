@@ -1,10 +1,10 @@
 //! The answer to a session of this form.
-ghost use Rattle.std.specs.Prelude.{◌≡◌, ◌≤◌, ◌%◌, ◌++◌, length, IfOk, OnOk, IsTrue};
+ghost use Rattle.std.specs.Prelude.{◌≡◌, ◌≤◌, ◌%◌, ◌++◌, length, Contains, IfOk, OnOk};
+ghost use Rattle.fj_coeff.specs.Field.{primes};
 ghost use Rattle.fj_coeff.specs.PrimeField.{prime_field};
 ghost use Rattle.fj_theory.specs.Polynomial.{IsPolynomial, term};
 ghost use Rattle.fj_root.specs.Part.{part_of, parts_of};
 ghost use Rattle.fj_session.specs.Answer.{IsPartsText, declared, part_line, parts_bytes, polynomial_bytes};
-ghost use Rattle.fj_session.specs.Form.{is_prime};
 ghost use Rattle.fj_session.specs.Held.{values_of};
 ghost use Rattle.fj_session.specs.Reading.{words_of};
 
@@ -131,11 +131,12 @@ fn push_parts<K: Coeff>(
 
 /// The text of the parts, over a field of the characteristic that the form names.
 fn answer_over<K: Coeff>(alloc: Global, form: &Form) -> Result<Vec<u8>, AllocError>
-    requires { length form.now.variables.items ≤ 7 }
-    ensures { IfOk result (λ text. IsPartsText K.field (words_of form.now.variables.items) (values_of form.now.terms.items) text.items) }
+    requires few { length form.now.variables.items ≤ 7 }
+    requires small_e { form.now.e ≤ 12 }
+    ensures { IfOk result (λ text. IsPartsText K.field form.now.e (words_of form.now.variables.items) (values_of form.now.terms.items) text.items) }
 {
     let poly = polynomial_of_terms::<K>(alloc, &form.terms)?;
-    let parts = parts(alloc, 1, &poly)?;
+    let parts = parts(alloc, form.e, &poly)?;
     let mut text = Vec::new(alloc);
     push_parts(&mut text, &form.variables, 1, &parts)?;
     Ok(text)
@@ -144,8 +145,9 @@ fn answer_over<K: Coeff>(alloc: Global, form: &Form) -> Result<Vec<u8>, AllocErr
 /// The text of the answer to a form.
 pub fn answer(alloc: Global, form: &Form) -> Result<Vec<u8>, AllocError>
     requires few { length form.now.variables.items ≤ 7 }
-    requires prime { IsTrue (is_prime form.now.prime) }
-    ensures { IfOk result (λ text. IsPartsText (prime_field form.now.prime) (words_of form.now.variables.items) (values_of form.now.terms.items) text.items) }
+    requires prime { Contains primes form.now.prime }
+    requires small_e { form.now.e ≤ 12 }
+    ensures { IfOk result (λ text. IsPartsText (prime_field form.now.prime) form.now.e (words_of form.now.variables.items) (values_of form.now.terms.items) text.items) }
 {
     if form.prime == 2 {
         answer_over::<Fp<2>>(alloc, form)

@@ -1,11 +1,12 @@
-//! The form of a session of three lines: a ring, a sum of terms, and the question for its parts at 1.
-ghost use Rattle.std.specs.Prelude.{ℕ, List, ◌≡◌, ◌≢◌, ◌↔◌, ◌≤◌, ◌<◌, length, map, codes, IsTrue, IfOk, IsErrOf};
+//! The form of a session of three lines: a ring, a sum of terms, and the question for its parts at e.
+ghost use Rattle.std.specs.Prelude.{ℕ, List, ◌≡◌, ◌≢◌, ◌↔◌, ◌≤◌, ◌<◌, length, map, codes, Contains, IfOk, IsErrOf};
 ghost use Rattle.std.specs.List.{IsDistinct};
 ghost use Rattle.std.specs.Option.{option_map};
 ghost use Rattle.std.specs.Str.{bytes_eq};
 ghost use Rattle.fj_session.specs.declared.form.FormFault.TheVariants.{Memory};
-ghost use Rattle.fj_session.specs.Form.{FormText, IsForm, is_prime, spelling, term_of, is_among};
-ghost use Rattle.fj_session.specs.Reading.{Gives, GivesItem, ReadsItem, words_of, map_item, listed, after, word_at, prime_at, are_distinct, variables_at, ring_line_at, poly_line_at, ask_line_at, form_at};
+ghost use Rattle.fj_coeff.specs.Field.{primes};
+ghost use Rattle.fj_session.specs.Form.{FormText, IsForm, spelling, term_of, is_among};
+ghost use Rattle.fj_session.specs.Reading.{Gives, GivesItem, ReadsItem, words_of, map_item, listed, after, word_at, prime_at, are_distinct, variables_at, ring_line_at, poly_line_at, e_at, ask_line_at, form_at};
 ghost use Rattle.fj_session.specs.Held.{values_of, Holds, form_value, held_value};
 
 #[cfg(test)]
@@ -24,12 +25,16 @@ const PRIMES: [u64; 6] = [2, 3, 5, 7, 11, 13];
 /// The most variables of a ring.
 const MAX_VARIABLES: usize = 7;
 
+/// The greatest e of a question.
+const MAX_E: u64 = 12;
+
 /// What a session of this form holds: its names are those of the first variables of the terms.
 #[derive(Debug, Drop)]
 pub struct Form {
     pub prime: u64,
     pub variables: Vec<Vec<u8>>,
     pub terms: Vec<Term>,
+    pub e: u32,
 }
 
 /// Why a session was not read as a form.
@@ -58,7 +63,7 @@ impl<T: Drop> From<AllocFailed<T>> for FormFault {
 }
 
 /// The prime at the front, spelled without a zero before it.
-#[tactic(auto, unfolding(crate::specs::Reading::prime_at))]
+#[tactic(auto, unfolding(crate::specs::Reading::prime_at, fj_coeff::specs::Field::primes))]
 fn read_prime(bytes: &[u8]) -> Option<(u64, &[u8])>
     ensures { ReadsItem (λ prime. prime) result (prime_at bytes.now) }
 {
@@ -168,14 +173,32 @@ fn read_poly_line<'a>(
     Ok((name, terms, rest))
 }
 
-/// The third line: the question about the same name.
-#[tactic(auto, unfolding(crate::specs::Reading::ask_line_at))]
-fn read_ask_line<'a>(name: &[u8], bytes: &'a [u8]) -> Result<&'a [u8], FormFault>
-    ensures { Gives (λ rest. rest.now) result (ask_line_at name.now bytes.now) }
+/// The e of the question, spelled without a zero before it.
+#[tactic(auto, unfolding(crate::specs::Reading::e_at))]
+fn read_e(bytes: &[u8]) -> Option<(u32, &[u8])>
+    ensures { ReadsItem (λ e. e) result (e_at bytes.now) }
 {
-    let rest = expect_text(bytes, b"ask parts 1 ")?;
+    if let Some(rest) = strip(bytes, b"0") {
+        return Some((0, rest));
+    }
+    let (number, rest) = read_number(bytes)?;
+    if number > MAX_E {
+        return None;
+    }
+    Some((number as u32, rest))
+}
+
+/// The third line: the question about the same name, and its e.
+#[tactic(auto, unfolding(crate::specs::Reading::ask_line_at))]
+fn read_ask_line<'a>(name: &[u8], bytes: &'a [u8]) -> Result<(u32, &'a [u8]), FormFault>
+    ensures { GivesItem (λ e. e) result (ask_line_at name.now bytes.now) }
+{
+    let rest = expect_text(bytes, b"ask parts ")?;
+    let (e, rest) = read_e(rest).ok_or(FormFault::Form)?;
+    let rest = expect_text(rest, b" ")?;
     let rest = expect_text(rest, name)?;
-    expect_text(rest, b"\n")
+    let rest = expect_text(rest, b"\n")?;
+    Ok((e, rest))
 }
 
 /// The lines of a form, all of the bytes.
@@ -188,7 +211,7 @@ fn read_lines(alloc: Global, bytes: &[u8]) -> Result<Form, FormFault>
     }
     let (prime, variables, rest) = read_ring_line(alloc, bytes)?;
     let (name, terms, rest) = read_poly_line(alloc, &variables, rest)?;
-    let rest = read_ask_line(name, rest)?;
+    let (e, rest) = read_ask_line(name, rest)?;
     if !rest.is_empty() || is_among(&variables, name) {
         return Err(FormFault::Form);
     }
@@ -196,6 +219,7 @@ fn read_lines(alloc: Global, bytes: &[u8]) -> Result<Form, FormFault>
         prime,
         variables,
         terms,
+        e,
     })
 }
 
@@ -204,7 +228,8 @@ pub fn read_form(alloc: Global, bytes: &[u8]) -> Result<Form, FormFault>
     // What is read is spelled so, and is what the text means.
     ensures found { IfOk result (λ form. (text : FormText) × IsForm text
         × (bytes.now ≡ spelling text) × Holds form text) }
-    ensures prime { IfOk result (λ form. IsTrue (is_prime form.prime)) }
+    ensures prime { IfOk result (λ form. Contains primes form.prime) }
+    ensures small_e { IfOk result (λ form. form.e ≤ 12) }
     ensures few_variables { IfOk result (λ form. length form.variables.items ≤ 7) }
 
     // Form comes only where no form is spelled so.

@@ -4,7 +4,7 @@ use std::test::Fail;
 
 #[test]
 fn reads_a_session(rt: HostRuntime) -> Result<(), Fail> {
-    let session = b"ring 3 x, y\npoly f = 2*x^4*y+x*y+0007*y^3*x^0*y\nask parts 1 f\n";
+    let session = b"ring 3 x, y\npoly f = 2*x^4*y+x*y+0007*y^3*x^0*y\nask parts 11 f\n";
     let form = read_form(rt.alloc(), session)?;
     assert_eq!(rt; form.prime, 3);
     assert_eq!(rt; form.variables.len(), 2);
@@ -15,12 +15,13 @@ fn reads_a_session(rt: HostRuntime) -> Result<(), Fail> {
     assert_eq!(rt; form.terms[1].coefficient, 1);
     assert_eq!(rt; form.terms[2].coefficient, 7);
     assert_eq!(rt; form.terms[2].exponents, [0, 4, 0, 0, 0, 0, 0, 0]);
+    assert_eq!(rt; form.e, 11);
     Ok(())
 }
 
 #[test]
 fn refuses_what_is_nearly_a_session(rt: HostRuntime) {
-    let rows: [&[u8]; 12] = [
+    let rows: [&[u8]; 17] = [
         b"",
         b"ring 4 x\npoly f = x\nask parts 1 f\n",
         b"ring 02 x\npoly f = x\nask parts 1 f\n",
@@ -33,6 +34,11 @@ fn refuses_what_is_nearly_a_session(rt: HostRuntime) {
         b"ring 2 x\npoly f = 10000*x\nask parts 1 f\n",
         b"ring 2 x\npoly f = x\nask parts 1 g\n",
         b"ring 2 x\npoly f = x\nask parts 1 f",
+        b"ring 2 x\npoly f = x\nask parts 13 f\n",
+        b"ring 2 x\npoly f = x\nask parts 01 f\n",
+        b"ring 2 x\npoly f = x\nask parts 00 f\n",
+        b"ring 2 x\npoly f = x\nask parts  f\n",
+        b"ring 2 x\npoly f = x\nask parts f\n",
     ];
     for row in rows {
         assert!(rt;

@@ -7,7 +7,7 @@ use std::test::Fail;
 fn answers_sessions(rt: HostRuntime) -> Result<(), Fail> {
     let alloc = rt.alloc();
     let go: &[&str] = &["run"];
-    let rows: [(&[&str], &[u8], u8, &[u8]); 16] = [
+    let rows: [(&[&str], &[u8], u8, &[u8]); 19] = [
         (
             go,
             b"ring 3 x, y\npoly f = 2*x^4*y+x*y+y^3\nask parts 1 f\n",
@@ -25,6 +25,25 @@ fn answers_sessions(rt: HostRuntime) -> Result<(), Fail> {
             b"ring 2 x\npoly z = x+x\nask parts 1 z\n",
             0,
             b"1: none\n",
+        ),
+        // Over 3^0-th powers the one part is the polynomial; over 3^12-th powers each term is a part.
+        (
+            go,
+            b"ring 3 x, y\npoly f = 2*x^4*y+x*y+y^3\nask parts 0 f\n",
+            0,
+            b"1: part (0,0) = 2*x^4*y+y^3+x*y\n",
+        ),
+        (
+            go,
+            b"ring 2 x, y\npoly f = x^5+x^4*y^3+1\nask parts 2 f\n",
+            0,
+            b"1: part (0,0) = 1\n1: part (0,3) = x\n1: part (1,0) = x\n",
+        ),
+        (
+            go,
+            b"ring 3 x, y\npoly f = 2*x^4*y+x*y+y^3\nask parts 12 f\n",
+            0,
+            b"1: part (0,3) = 1\n1: part (1,1) = 1\n1: part (4,1) = 2\n",
         ),
         // Each prime, and one to seven variables.
         (

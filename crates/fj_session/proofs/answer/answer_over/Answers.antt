@@ -12,7 +12,7 @@ returns g c =
     let parts = parts_of c.in_ok-parts.parts.items in
     record {
       parts = parts;
-      are_parts = subst (λ f. IsParts F (F.characteristic ^ 1) f parts) (c.in_ok-poly.ensures.value ∙ ap (λ ts. declared F (values_of ts)) c.deref.ensures.value) c.in_ok-parts.ensures;
+      are_parts = subst (λ f. IsParts F (F.characteristic ^ c.args.form.now.e) f parts) (c.in_ok-poly.ensures.value ∙ ap (λ ts. declared F (values_of ts)) c.deref.ensures.value) c.in_ok-parts.ensures;
       is =
           c.in_ok-push_parts.ensures ∙ ap (λ s. s ++ parts_bytes (words_of c.deref-2.result.now) 1 (parts_of c.deref-3.result.now)) c.new-text.ensures.items
           ∙ ap₂ (λ names ps. parts_bytes (words_of names) 1 (parts_of ps)) c.deref-2.ensures.value c.deref-3.ensures.value;
