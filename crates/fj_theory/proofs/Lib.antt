@@ -55,3 +55,4 @@ pub mod Rows
 pub mod DegreeOrder
 pub mod Trace
 pub mod Splitting
+pub mod Fedder
