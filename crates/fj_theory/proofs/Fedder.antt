@@ -1,5 +1,5 @@
 -- Fedder's criterion, and compatible ideals by roots, for polynomials.
-use Rattle.std.proofs.Common.{◌≡◌, ◌≢◌, ◌↔◌, ℕ, ◌^◌, List, All, Any, Contains, sym, ap, ◌∙◌, subst, zero, suc, refl, pow-suc, arith}
+use Rattle.std.proofs.Common.{◌≡◌, ◌≢◌, ◌↔◌, ℕ, ◌^◌, List, Any, sym, ap, ◌∙◌, subst, zero, suc, refl, pow-suc, arith}
 use Rattle.std.proofs.Math.Nat.{pow-zero}
 use Rattle.fj_coeff.specs.Field.{Field, IsField}
 use Rattle.fj_algebra.specs.Ring.{subtract}
@@ -12,15 +12,15 @@ use Rattle.fj_algebra.proofs.Pairs.{contains_map, contains_map_back}
 use Rattle.fj_algebra.proofs.Splitting as ring_laws
 use Rattle.fj_algebra.proofs.Fedder as ring_criteria
 use Rattle.fj_theory.specs.Exponents.{origin}
-use Rattle.fj_theory.specs.Polynomial.{Polynomial, IsPolynomial, product, term}
-use Rattle.fj_theory.specs.Parts.{IsParts, part_at}
+use Rattle.fj_theory.specs.Polynomial.{Polynomial, IsPolynomial, term}
+use Rattle.fj_theory.specs.Parts.{IsParts}
 use Rattle.fj_theory.specs.Ideal.{ArePolynomials, Member, Inside, Equal, multiples}
 use Rattle.fj_theory.specs.FrobeniusPower.{frobenius_power}
 use Rattle.fj_theory.specs.Root.{IsRoot}
 use Rattle.fj_theory.specs.Colon.{IsColon}
 use Rattle.fj_theory.specs.Division.{difference}
 use Rattle.fj_theory.specs.Evaluation.{IsPoint, value}
-use Rattle.fj_theory.specs.Splitting.{IsInverseLinear, Keeps, IsFPure, IsFPureAt, IsCompatible, top_residue}
+use Rattle.fj_theory.specs.Splitting.{IsInverseLinear, Keeps, IsFPure, IsFPureAt, IsCompatible}
 use Rattle.fj_theory.proofs.Field.{Element, element, element_equal, rank_element, element_zero, rank_zero, field_ring}
 use Rattle.fj_theory.proofs.PolynomialRing.{PolynomialOver, polynomial_ring, map_one, map_mul}
 use Rattle.fj_theory.proofs.IdealBridge.{over, maps, InRing, in_ring, InRing-multiples, InRing-frobenius_power, Member_map, Member_over, Member_polynomial, Inside_map, Inside_over}

@@ -1,14 +1,13 @@
 -- The p^-1-linear maps of polynomials are those of the ring of polynomials: by their values, by their laws, and as traces.
-use Rattle.std.proofs.Common.{◌≡◌, ◌↔◌, ℕ, ◌^◌, ◌<◌, Bool, true, false, cond, ◌||◌, List, [], ◌∷◌, All, Contains, refl, sym, ap, ap₂, ◌∙◌, subst, true≢false}
+use Rattle.std.proofs.Common.{◌≡◌, ℕ, ◌^◌, ◌<◌, Bool, true, false, cond, ◌||◌, List, [], ◌∷◌, All, Contains, refl, sym, ap, ap₂, ◌∙◌, subst, true≢false}
 use Rattle.std.specs.List.{list_any}
 use Rattle.std.specs.FinMap.{empty}
 use Rattle.std.proofs.lemmas.Map.Made.{is_member-Decides}
-use Rattle.std.proofs.lemmas.List.Elements.{All-head, All-tail, All-weaker, All-contains_itself}
+use Rattle.std.proofs.lemmas.List.Elements.{All-head, All-weaker, All-contains_itself}
 use Rattle.fj_coeff.specs.Field.{Field, IsField}
 use Rattle.fj_algebra.specs.Ring.{CommutativeRing}
 use Rattle.fj_algebra.specs.Power as ring
 use Rattle.fj_algebra.specs.Sum.{sum_over}
-use Rattle.fj_algebra.specs.Parts as ring_parts
 use Rattle.fj_algebra.specs.Splitting as ring_splitting
 use Rattle.fj_algebra.proofs.Ring.{add_zero, zero_add, zero_mul, mul_comm, mul_one, mul_left_comm, mul_add}
 use Rattle.fj_algebra.proofs.Sum.{sum_over-same_each, sum_over-zero}
@@ -21,7 +20,7 @@ use Rattle.fj_theory.specs.Splitting.{weighted_sum, IsInverseLinear, top_residue
 use Rattle.fj_theory.specs.SplittingLaws.{IsLinearOverPowers, IsTraceOf}
 use Rattle.fj_theory.proofs.Field.{zero_below, one_below}
 use Rattle.fj_theory.proofs.FormalSum.{same, same_true, same_itself, same-Decides}
-use Rattle.fj_theory.proofs.Frobenius.{power_positive, polynomial-IsFrobenius, power_empty}
+use Rattle.fj_theory.proofs.Frobenius.{power_positive}
 use Rattle.fj_theory.proofs.Polynomial.{coefficient_below, polynomial_equal, IsPolynomial-empty, IsPolynomial-term}
 use Rattle.fj_theory.proofs.Product.{IsPolynomial-product}
 use Rattle.fj_theory.proofs.PolynomialRing.{PolynomialOver, over_equal, polynomial_ring, map_zero, map_add, map_mul, map_power, product_comm, product_empty, IsPolynomial-power}

@@ -6,7 +6,7 @@ use Rattle.std.proofs.lemmas.List.Elements.{All-nil, All-cons, All-head, All-tai
 use Rattle.fj_coeff.specs.Field.{Field, IsField}
 use Rattle.fj_algebra.specs.Splitting as ring
 use Rattle.fj_theory.specs.Exponents.{IsExponents, plus, minus, times, divides}
-use Rattle.fj_theory.specs.Polynomial.{Polynomial, IsPolynomial, coefficient, term, product}
+use Rattle.fj_theory.specs.Polynomial.{coefficient, term, product}
 use Rattle.fj_theory.specs.Parts.{iterated_root}
 use Rattle.fj_theory.specs.Splitting.{top_residue}
 use Rattle.fj_theory.proofs.Exponents.{IsExponents-plus, IsExponents-minus, IsExponents-times, plus_comm, plus_assoc, plus-minus}

@@ -9,3 +9,5 @@ pub mod bases;
 pub mod laws;
 pub mod polynomials;
 pub mod splittings;
+#[cfg(test)]
+mod tests;
