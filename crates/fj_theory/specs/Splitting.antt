@@ -1,5 +1,5 @@
--- Maps that are linear over q-th powers, F-purity (Hochster and Roberts 1976, Fedder 1983), and compatible ideals
--- (Schwede 2009 and 2010; Blickle, Mustață and Smith 2008, section 2).
+-- Maps that are linear over q-th powers (Fedder 1983, section 1), F-purity (Hochster and Roberts 1976, Fedder 1983), and
+-- compatible ideals (Schwede 2009 and 2010).
 use Rattle.std.specs.Prelude.{◌≡◌, ◌≢◌, ℕ, ◌-◌, ◌^◌, ◌<◌, List, [], ◌∷◌, All, replicate}
 use Rattle.std.specs.FinMap.{empty}
 use Rattle.fj_coeff.specs.Field.{Field}

@@ -1,5 +1,5 @@
--- Laws of splittings, which the law functions prove: Fedder's criterion (Fedder 1983), and compatible ideals by roots
--- (Blickle, Mustață and Smith 2008, section 2; Schwede 2009).
+-- Laws of splittings, which the law functions prove: the trace and Fedder's criterion (Fedder 1983, section 1), and
+-- compatible ideals by roots (Blickle, Mustață and Smith 2008, section 2).
 use Rattle.std.specs.Prelude.{◌≡◌, ◌≢◌, ◌↔◌, ℕ, ◌^◌, List, Any}
 use Rattle.fj_coeff.specs.Field.{Field, IsField}
 use Rattle.fj_theory.specs.Exponents.{origin}
