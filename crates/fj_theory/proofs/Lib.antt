@@ -53,3 +53,6 @@ pub mod PlainProduct
 pub mod Certificate
 pub mod Rows
 pub mod DegreeOrder
+pub mod Trace
+pub mod Splitting
+pub mod Fedder

@@ -31,7 +31,7 @@ pub record IsFamily (F : Field) (q : ℕ) (parts : List Part) : Type 0 where
   pub distinct : Distinct (residues_of parts)
   pub polynomials : All (λ part. IsPolynomial F part.polynomial) parts
 
-IsFamily-tail : {F : Field} {q : ℕ} (part : Part) (parts : List Part) → IsFamily F q (part ∷ parts) → IsFamily F q parts
+pub IsFamily-tail : {F : Field} {q : ℕ} (part : Part) (parts : List Part) → IsFamily F q (part ∷ parts) → IsFamily F q parts
 IsFamily-tail {F} {q} part parts H = record {
   residues = All-tail (λ part. IsExponents part.residue) part parts H.residues;
   below = All-tail (λ part. All (λ k. k < q) part.residue) part parts H.below;

@@ -7,16 +7,16 @@ use Rattle.std.proofs.lemmas.List.Elements.{All-map, All-head, All-tail, All-wea
 use Rattle.fj_coeff.specs.Field.{Field, IsField}
 use Rattle.fj_coeff.specs.Field as field
 use Rattle.fj_algebra.specs.Parts as ring
-use Rattle.fj_theory.specs.Exponents.{IsExponents, origin, plus, times}
+use Rattle.fj_theory.specs.Exponents.{IsExponents, origin, plus, times, residue_by}
 use Rattle.fj_theory.specs.Polynomial.{Polynomial, IsPolynomial, coefficient, term, sum, product, IsTerm}
 use Rattle.fj_theory.specs.Parts.{Part, sum_of_parts, part_at, part_terms, iterated_root}
-use Rattle.fj_theory.proofs.Exponents.{IsExponents-origin, plus_origin, IsExponents-times, times_origin}
+use Rattle.fj_theory.proofs.Exponents.{IsExponents-origin, plus_origin, origin_plus, IsExponents-times, times_origin}
 use Rattle.fj_theory.proofs.Product.{K}
 use Rattle.fj_theory.proofs.Monomial.{rank_power}
 use Rattle.fj_theory.proofs.Roots.{iterated_root_zero, iterated_root-power}
 use Rattle.fj_theory.proofs.Frobenius.{power_positive, polynomial-IsFrobenius, field-IsFrobenius, same-times}
 use Rattle.fj_theory.proofs.PartsExistence.{residues_of-map}
-use Rattle.fj_theory.proofs.Residues.{residues_below, residues_below-exponents, in_residues_below, residues_below-entries, Distinct, Distinct-from_Rises, Rises-residues_below}
+use Rattle.fj_theory.proofs.Residues.{residues_below, residues_below-exponents, in_residues_below, residues_below-entries, Distinct, Distinct-from_Rises, Rises-residues_below, IsExponents-residue_by, residue_by-below, residue_by-plus}
 use Rattle.fj_theory.proofs.PartsList.{IsTerm-part_terms, coefficient-part_terms}
 use Rattle.fj_theory.proofs.Field.{one_below, rank_one}
 use Rattle.fj_theory.proofs.Terms.{IsPolynomial-from_entries, IsTerm-entries, from_entries-entries}
@@ -167,3 +167,40 @@ module _ {F : Field} (L : IsField F) (e : ℕ) where
   pub residue_listed : {a : List ℕ} → IsExponents a → All (λ k. k < F.characteristic ^ e) a → Contains polynomial-Parts.residues a
   unfolding polynomial-Parts
   residue_listed {a} A below = (is_member-Decides same-Decides (residues_below (F.characteristic ^ e)) a).0 (in_residues_below (F.characteristic ^ e) A below)
+
+  -- The residues are the exponent lists with entries below q, without repetition.
+  pub residue_exponents : {a : List ℕ} → Contains polynomial-Parts.residues a → IsExponents a
+  unfolding polynomial-Parts
+  residue_exponents {a} listed = All-contains IsExponents (residues_below (F.characteristic ^ e)) a (residues_below-exponents (F.characteristic ^ e)) listed
+
+  pub residue_below : {a : List ℕ} → Contains polynomial-Parts.residues a → All (λ k. k < F.characteristic ^ e) a
+  unfolding polynomial-Parts
+  residue_below {a} listed =
+      All-contains (λ b. All (λ k. k < F.characteristic ^ e) b) (residues_below (F.characteristic ^ e)) a (residues_below-entries (F.characteristic ^ e)) listed
+
+  pub residues_distinct : Distinct polynomial-Parts.residues
+  unfolding polynomial-Parts
+  residues_distinct = Distinct-from_Rises (residues_below (F.characteristic ^ e)) (Rises-residues_below (F.characteristic ^ e))
+
+  -- The basis elements as maps, and the coefficients of the parts.
+  pub map_basis : {a : List ℕ} → IsExponents a → (polynomial-Parts.basis a).map ≡ term 1 a
+  unfolding polynomial-Parts monomial_at
+  map_basis {a} A = ap (term 1) (fit_same 8 a A.eight)
+
+  pub coefficient-part : (h : PolynomialOver F) {a b : List ℕ} → IsExponents a → All (λ k. k < F.characteristic ^ e) a → IsExponents b
+      → coefficient (polynomial-Parts.part h a).map b ≡ iterated_root F e (coefficient h.map (plus (times (F.characteristic ^ e) b) a))
+  unfolding polynomial-Parts
+  coefficient-part h A below B = coefficient-part_of h A below B
+
+-- A choice of a polynomial for each residue, as a family over all lists: each list is read as the residue of its first
+-- eight entries.
+pub record Family (F : Field) (q : ℕ) (k : List ℕ → Polynomial) : Type 0 where
+  pub at : List ℕ → PolynomialOver F
+  pub agrees : {a : List ℕ} → IsExponents a → All (λ i. i < q) a → (at a).map ≡ k a
+
+pub family_over : {F : Field} (q : ℕ) → 0 < q → {k : List ℕ → Polynomial} → ((a : List ℕ) → IsExponents a → All (λ i. i < q) a → IsPolynomial F (k a)) → Family F q k
+family_over q positive {k} K = record {
+  at = λ a. record { map = k (residue_by q (fit 8 a)); is_polynomial = K (residue_by q (fit 8 a)) (IsExponents-residue_by q (record { eight = length-fit 8 a })) (residue_by-below q (fit 8 a) positive) };
+  agrees = λ {a} A below.
+      ap k (ap (residue_by q) (fit_same 8 a A.eight ∙ sym (ap (λ z. plus z a) (times_origin q) ∙ origin_plus A)) ∙ residue_by-plus q IsExponents-origin A below);
+}

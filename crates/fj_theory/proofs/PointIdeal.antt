@@ -11,14 +11,16 @@ use Rattle.fj_coeff.specs.Field.{Field, IsField}
 use Rattle.fj_algebra.specs.Ring.{CommutativeRing, subtract}
 use Rattle.fj_algebra.proofs.Ring.{ring_laws}
 use Rattle.fj_theory.specs.Exponents.{IsExponents, origin, plus, total}
-use Rattle.fj_theory.specs.Polynomial.{Polynomial, IsPolynomial, coefficient, sum, negation, product, term}
+use Rattle.fj_theory.specs.Polynomial.{Polynomial, IsPolynomial, coefficient, sum, product, term}
 use Rattle.fj_theory.specs.Ideal.{ArePolynomials, Member}
+use Rattle.fj_theory.specs.Division.{difference}
 use Rattle.fj_theory.specs.Evaluation.{IsPoint, monomial_value, value, IsZeroOf}
 use Rattle.fj_theory.specs.PointIdeal.{variable_exponents, less_coordinate, point_ideal, UsesFirst}
 use Rattle.fj_theory.proofs.Exponents.{cons_same, total-cons, IsExponents-origin, origin_from_total, plus_origin, origin_plus}
 use Rattle.fj_theory.proofs.Field.{zero_below, one_below}
-use Rattle.fj_theory.proofs.PolynomialRing.{PolynomialOver, polynomial_ring, map_zero, map_add, map_neg, map_mul, IsPolynomial-negation, sum_negation}
+use Rattle.fj_theory.proofs.PolynomialRing.{polynomial_ring, map_zero, map_add, map_mul, IsPolynomial-negation, sum_negation}
 use Rattle.fj_theory.proofs.IdealBridge.{over}
+use Rattle.fj_theory.proofs.Division.{map_subtract}
 use Rattle.fj_theory.proofs.Ideal.{Member-Contains, Member-empty, Member-sum, Member-product}
 use Rattle.fj_theory.proofs.Polynomial.{coefficient_below, coefficient-sum, coefficient-term, IsPolynomial-empty, IsPolynomial-term, IsPolynomial-sum}
 use Rattle.fj_theory.proofs.FormalSum.{same, same_itself, same_false}
@@ -79,12 +81,9 @@ variable_plus_lower : {a : List ℕ} → IsExponents a → (i : ℕ) → 0 < get
 unfolding variable_exponents origin
 variable_plus_lower {a} A i h = ap (λ k. plus (set (replicate k 0) i 1) (lower a i)) (sym A.eight) ∙ split_at a i h
 
--- The constant polynomials, and the difference of two polynomials.
+-- The constant polynomials.
 abbrev constant : ℕ → Polynomial
 constant c = term c origin
-
-abbrev difference : Field → Polynomial → Polynomial → Polynomial
-difference F f g = sum F f (negation F g)
 
 -- Differences of products and of sums.
 ring_product : {A : Type 0} (R : CommutativeRing A) (x t c m : A) → subtract R (R.mul x t) (R.mul c m) ≡ R.add (R.mul x (subtract R t m)) (R.mul m (subtract R x c))
@@ -117,30 +116,31 @@ module _ {F : Field} (L : IsField F) where
       let rest = All-tail (λ x. x < F.size) x point all in
       ap (F.mul 1) (monomial_value-variable m i point (omega arith) rest) ∙ one_mul _ (coordinate_below point rest i)
 
-  map_subtract : (x y : PolynomialOver F) → (subtract (polynomial_ring L) x y).map ≡ difference F x.map y.map
-  map_subtract x y = map_add L x _ ∙ ap (sum F x.map) (map_neg L y)
+  difference_self : {f : Polynomial} → IsPolynomial F f → difference F f f ≡ empty
+  unfolding difference
+  difference_self P = sum_negation L P
 
   difference_empty : {f : Polynomial} → IsPolynomial F f → difference F f empty ≡ f
   difference_empty {f} P =
       let R = polynomial_ring L in
-      sym (map_subtract (over P) R.zero ∙ ap (difference F f) (map_zero L)) ∙ ap (λ h. h.map) (ring_zero R (over P))
+      sym (map_subtract L (over P) R.zero ∙ ap (difference F f) (map_zero L)) ∙ ap (λ h. h.map) (ring_zero R (over P))
 
   difference_product : {x t c m : Polynomial} → IsPolynomial F x → IsPolynomial F t → IsPolynomial F c → IsPolynomial F m
       → difference F (product F x t) (product F c m) ≡ sum F (product F x (difference F t m)) (product F m (difference F x c))
   difference_product {x} {t} {c} {m} X T C M =
       let R = polynomial_ring L in
-      sym (map_subtract (R.mul (over X) (over T)) (R.mul (over C) (over M)) ∙ ap₂ (difference F) (map_mul L (over X) (over T)) (map_mul L (over C) (over M)))
+      sym (map_subtract L (R.mul (over X) (over T)) (R.mul (over C) (over M)) ∙ ap₂ (difference F) (map_mul L (over X) (over T)) (map_mul L (over C) (over M)))
       ∙ ap (λ h. h.map) (ring_product R (over X) (over T) (over C) (over M))
-      ∙ map_add L _ _ ∙ ap₂ (sum F) (map_mul L (over X) _ ∙ ap (product F x) (map_subtract (over T) (over M))) (map_mul L (over M) _ ∙ ap (product F m) (map_subtract (over X) (over C)))
+      ∙ map_add L _ _ ∙ ap₂ (sum F) (map_mul L (over X) _ ∙ ap (product F x) (map_subtract L (over T) (over M))) (map_mul L (over M) _ ∙ ap (product F m) (map_subtract L (over X) (over C)))
 
   difference_sum : {c x m f v : Polynomial} → IsPolynomial F c → IsPolynomial F x → IsPolynomial F m → IsPolynomial F f → IsPolynomial F v
       → difference F (sum F (product F c x) f) (sum F (product F c m) v) ≡ sum F (product F c (difference F x m)) (difference F f v)
   difference_sum {c} {x} {m} {f} {v} C X M P V =
       let R = polynomial_ring L in
-      sym (map_subtract (R.add (R.mul (over C) (over X)) (over P)) (R.add (R.mul (over C) (over M)) (over V))
+      sym (map_subtract L (R.add (R.mul (over C) (over X)) (over P)) (R.add (R.mul (over C) (over M)) (over V))
       ∙ ap₂ (difference F) (map_add L _ _ ∙ ap (λ h. sum F h f) (map_mul L (over C) (over X))) (map_add L _ _ ∙ ap (λ h. sum F h v) (map_mul L (over C) (over M))))
       ∙ ap (λ h. h.map) (ring_sum R (over C) (over X) (over M) (over P) (over V))
-      ∙ map_add L _ _ ∙ ap₂ (sum F) (map_mul L (over C) _ ∙ ap (product F c) (map_subtract (over X) (over M))) (map_subtract (over P) (over V))
+      ∙ map_add L _ _ ∙ ap₂ (sum F) (map_mul L (over C) _ ∙ ap (product F c) (map_subtract L (over X) (over M))) (map_subtract L (over P) (over V))
 
   IsPolynomial-constant : (c : ℕ) → c < F.size → IsPolynomial F (constant c)
   IsPolynomial-constant c h = IsPolynomial-term c h IsExponents-origin
@@ -178,7 +178,7 @@ module _ {F : Field} (L : IsField F) where
       Member-monomial zero a A later e =
           subst (Member F (point_ideal F n point))
           (sym (ap (λ b. difference F (term 1 b) (constant (monomial_value F b point))) (origin_from_total A e) ∙ ap (λ c. difference F (term 1 origin) (constant c)) (monomial_value-origin L point)
-          ∙ sum_negation L (IsPolynomial-constant 1 (one_below L)))) (Member-empty L (ArePolynomials-point_ideal at n))
+          ∙ difference_self (IsPolynomial-constant 1 (one_below L)))) (Member-empty L (ArePolynomials-point_ideal at n))
       Member-monomial (suc t) a A later e = by (find_positive a) (λ b B l s. Member-monomial t b B l s)
         where
           by : (total a ≡ 0) ⊎ ((i : ℕ) × (i < length a) × (0 < get_or a i 0))
@@ -208,14 +208,14 @@ module _ {F : Field} (L : IsField F) where
               let C = IsPolynomial-constant c hc in
               let M = IsPolynomial-constant m hm in
               subst (Member F (point_ideal F n point)) (sym (ap₂ (difference F) front back ∙ difference_product X T C M))
-              (Member-sum L P (Member-product L P X rest) (Member-product L P M (unfold less_coordinate in Member-less_coordinate i inside)))
+              (Member-sum L P (Member-product L P X rest) (Member-product L P M (unfold less_coordinate difference in Member-less_coordinate i inside)))
 
       -- A polynomial in the first n variables less its value is a member.
       Member-less_value : {f : Polynomial} → IsPolynomial F f → UsesFirst n f → Member F (point_ideal F n point) (difference F f (constant (value F f point)))
       Member-less_value P =
           polynomial_induction L (λ f. UsesFirst n f → Member F (point_ideal F n point) (difference F f (constant (value F f point))))
           (λ first. subst (Member F (point_ideal F n point))
-          (sym (ap (λ c. difference F empty (constant c)) (value-empty L at) ∙ ap (difference F empty) (term_zero L IsExponents-origin) ∙ sum_negation L (IsPolynomial-empty F))) (Member-empty L (ArePolynomials-point_ideal at n)))
+          (sym (ap (λ c. difference F empty (constant c)) (value-empty L at) ∙ ap (difference F empty) (term_zero L IsExponents-origin) ∙ difference_self (IsPolynomial-empty F))) (Member-empty L (ArePolynomials-point_ideal at n)))
           (λ c a f T Q new recur first.
           let I = ArePolynomials-point_ideal at n in
           let A = T.exponents in

@@ -25,3 +25,5 @@ pub mod Plain
 pub mod Certificate
 pub mod Rows
 pub mod DegreeOrder
+pub mod Splitting
+pub mod SplittingLaws
