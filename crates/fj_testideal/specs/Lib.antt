@@ -1,0 +1,5 @@
+pub mod TestIdeal
+pub mod Jump
+pub mod JumpList
+pub mod Threshold
+pub mod Chain
