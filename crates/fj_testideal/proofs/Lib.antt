@@ -1,0 +1,4 @@
+pub mod Ceiling
+pub mod PowerRoot
+pub mod TestIdeal
+pub mod Jump

@@ -3,3 +3,5 @@ pub mod Jump
 pub mod JumpList
 pub mod Threshold
 pub mod Chain
+pub mod TestIdealLaws
+pub mod JumpLaws

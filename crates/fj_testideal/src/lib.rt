@@ -2,3 +2,6 @@
 //! theorems over them. `specs/` holds the definitions, each with its source, and `proofs/` the proofs of the theorems.
 //! `docs/DEFINITIONS.md` has the definitions in words.
 #![tactic(auto)]
+
+pub mod jumps;
+pub mod test_ideals;
