@@ -6,3 +6,7 @@ pub mod MonomialList
 pub mod BoundedIdeal
 pub mod BoundedChain
 pub mod BoundedParts
+pub mod Ceiling
+pub mod PowerRoot
+pub mod TestIdeal
+pub mod Jump

@@ -5,3 +5,5 @@ pub mod Threshold
 pub mod Chain
 pub mod BoundedIdeal
 pub mod LeadLaws
+pub mod TestIdealLaws
+pub mod JumpLaws

@@ -4,3 +4,5 @@
 #![tactic(auto)]
 
 pub mod leads;
+pub mod jumps;
+pub mod test_ideals;
