@@ -10,3 +10,6 @@ pub mod Ceiling
 pub mod PowerRoot
 pub mod TestIdeal
 pub mod Jump
+pub mod CompleteList
+pub mod Threshold
+pub mod ThresholdGap

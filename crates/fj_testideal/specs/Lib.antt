@@ -7,3 +7,5 @@ pub mod BoundedIdeal
 pub mod LeadLaws
 pub mod TestIdealLaws
 pub mod JumpLaws
+pub mod ListLaws
+pub mod ThresholdLaws

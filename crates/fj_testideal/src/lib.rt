@@ -3,6 +3,8 @@
 //! `docs/DEFINITIONS.md` has the definitions in words.
 #![tactic(auto)]
 
-pub mod leads;
 pub mod jumps;
+pub mod leads;
+pub mod lists;
 pub mod test_ideals;
+pub mod thresholds;
