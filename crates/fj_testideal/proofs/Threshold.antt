@@ -110,7 +110,7 @@ module _ {F : Field} (L : IsField F) {f : Polynomial} (A : IsPolynomial F f) {J 
       → (e : ℕ) → IsPowerInside F f J e (ceil_times t (F.characteristic ^ e) - 1) → (d : ℕ) → IsPowerInside F f J d (ceil_times s (F.characteristic ^ d))
   ceiling_inside_above s t above at_most e inside d =
       let large = truncation_inside-across t above e d inside in
-      let more = power_inside-more (e + d) (omega (arith, ceil_times-le t s (F.characteristic ^ (e + d)) at_most)) large in
+      let more : IsPowerInside F f J (e + d) (ceil_times s (F.characteristic ^ (e + d))) = power_inside-more (e + d) (omega (arith, ceil_times-le t s (F.characteristic ^ (e + d)) at_most)) large in
       let order : e + d ≡ d + e = omega arith in
       ceiling_inside-back s d e (subst (λ n. IsPowerInside F f J n (ceil_times s (F.characteristic ^ n))) order more)
 
