@@ -3,5 +3,6 @@
 //! `docs/DEFINITIONS.md` has the definitions in words.
 #![tactic(auto)]
 
+pub mod chains;
 pub mod jumps;
 pub mod test_ideals;
