@@ -2,6 +2,7 @@ pub mod Ceiling
 pub mod PowerRoot
 pub mod TestIdeal
 pub mod Jump
+pub mod LeftLimit
 pub mod Chain
-pub mod ChainLimit
 pub mod PeriodValue
+pub mod ChainLimit
