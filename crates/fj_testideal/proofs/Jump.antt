@@ -28,7 +28,7 @@ use Rattle.fj_testideal.proofs.PowerRoot.{IsPowerRoot, power_root-scaled, power_
 use Rattle.fj_testideal.proofs.TestIdeal.{IsTestIdeal-unique, IsLeftLimit-unique, IsTestIdeal-Equal, IsLeftLimit-Equal, left_limit-inside, test_ideal-inside}
 
 -- The lists of a test ideal are polynomials.
-ArePolynomials-IsTestIdeal : {F : Field} {f : Polynomial} {t : Fraction} {T : List Polynomial} → IsTestIdeal F f t T → ArePolynomials F T
+pub ArePolynomials-IsTestIdeal : {F : Field} {f : Polynomial} {t : Fraction} {T : List Polynomial} → IsTestIdeal F f t T → ArePolynomials F T
 ArePolynomials-IsTestIdeal S = (S.root S.start (omega arith)).polynomials
 
 above_zero_from_less : (s t : Fraction) → compare s t ≡ Less → 0 < t.numerator
@@ -72,7 +72,7 @@ module _ {F : Field} (L : IsField F) {f : Polynomial} (A : IsPolynomial F f) whe
 
   module _ (s t : Fraction) (less : compare s t ≡ Less) where
     -- The number (ceil(t*q) - 1)/q is in [s, t) for every large q.
-    truncation-IsBetween : (e : ℕ) → s.denominator * t.denominator ≤ e → IsBetween s t (ceil_times t (F.characteristic ^ e) - 1) (F.characteristic ^ e)
+    pub truncation-IsBetween : (e : ℕ) → s.denominator * t.denominator ≤ e → IsBetween s t (ceil_times t (F.characteristic ^ e) - 1) (F.characteristic ^ e)
     unfolding truncation
     truncation-IsBetween e large =
         let q : ℕ = F.characteristic ^ e in

@@ -13,3 +13,7 @@ pub mod Jump
 pub mod CompleteList
 pub mod Threshold
 pub mod ThresholdGap
+pub mod LeftLimit
+pub mod Chain
+pub mod PeriodValue
+pub mod ChainLimit

@@ -16,8 +16,8 @@ use Rattle.fj_theory.proofs.Field.{characteristic_large}
 use Rattle.fj_theory.proofs.Frobenius.{power_positive}
 use Rattle.fj_testideal.specs.TestIdeal.{IsTestIdeal, IsLeftLimit}
 use Rattle.fj_testideal.specs.TestIdealLaws.{plus}
-use Rattle.fj_testideal.proofs.Ceiling.{power_large, ceiling_positive, ceiling_below}
-use Rattle.fj_testideal.proofs.PowerRoot.{IsPowerRoot, IsPowerRoot-Equal, power_root-falls}
+use Rattle.fj_testideal.proofs.Ceiling.{power_large, ceiling_positive, ceiling_rises, truncation_rises, ceiling_below}
+use Rattle.fj_testideal.proofs.PowerRoot.{IsPowerRoot, IsPowerRoot-Equal, power_root, power_root-falls, power_root-rises_across, power_root-falls_across}
 
 -- Two test ideals at one exponent are one ideal, and so are two left limits.
 pub IsTestIdeal-unique : {F : Field} {f : Polynomial} {t : Fraction} {T T' : List Polynomial} → IsTestIdeal F f t T → IsTestIdeal F f t T' → Equal F T T'
@@ -71,6 +71,35 @@ module _ {F : Field} (L : IsField F) {f : Polynomial} (A : IsPolynomial F f) whe
   test_ideal-inside t I J =
       let e = max I.start J.start in
       power_root-falls L A e (omega arith) (I.root e (omega arith)) (J.root e (omega arith))
+
+  -- The root of f^ceil(t*p^e) rises with e, and that of f^(ceil(t*p^e) - 1) falls.
+  module _ (t : Fraction) (e d : ℕ) (h : e ≤ d) {M N : List Polynomial} where
+    pub ceiling_root-rises : IsPowerRoot F f e (ceil_times t (F.characteristic ^ e)) M → IsPowerRoot F f d (ceil_times t (F.characteristic ^ d)) N → Inside F M N
+    ceiling_root-rises S T =
+        let p = F.characteristic in
+        let place : d ≡ e + (d - e) = omega arith in
+        power_root-rises_across L A e (d - e) _ _ S (subst (λ d. IsPowerRoot F f d (ceil_times t (p ^ d)) N) place T) (ceiling_rises t p e (d - e))
+
+    pub truncation_root-falls : 0 < t.numerator → IsPowerRoot F f e (ceil_times t (F.characteristic ^ e) - 1) M → IsPowerRoot F f d (ceil_times t (F.characteristic ^ d) - 1) N → Inside F N M
+    truncation_root-falls above S T =
+        let p = F.characteristic in
+        let positive : 0 < F.characteristic = omega (arith, characteristic_large L) in
+        let place : d ≡ e + (d - e) = omega arith in
+        power_root-falls_across L A e (d - e) _ _ S (subst (λ d. IsPowerRoot F f d (ceil_times t (p ^ d) - 1) N) place T) (truncation_rises t p e (d - e) positive above)
+
+  -- Between two places where it is T, it is T.
+  module _ (t : Fraction) (c e d : ℕ) (low : c ≤ e) (high : e ≤ d) {T : List Polynomial} where
+    pub ceiling_root-between : IsPowerRoot F f c (ceil_times t (F.characteristic ^ c)) T → IsPowerRoot F f d (ceil_times t (F.characteristic ^ d)) T
+        → IsPowerRoot F f e (ceil_times t (F.characteristic ^ e)) T
+    ceiling_root-between S S' =
+        let R = power_root L A e (ceil_times t (F.characteristic ^ e)) in
+        IsPowerRoot-Equal L A e _ R.1 S.polynomials (record { forth = ceiling_root-rises t e d high R.1 S'; back = ceiling_root-rises t c e low S R.1 })
+
+    pub truncation_root-between : 0 < t.numerator → IsPowerRoot F f c (ceil_times t (F.characteristic ^ c) - 1) T → IsPowerRoot F f d (ceil_times t (F.characteristic ^ d) - 1) T
+        → IsPowerRoot F f e (ceil_times t (F.characteristic ^ e) - 1) T
+    truncation_root-between above S S' =
+        let R = power_root L A e (ceil_times t (F.characteristic ^ e) - 1) in
+        IsPowerRoot-Equal L A e _ R.1 S.polynomials (record { forth = truncation_root-falls t c e low above S R.1; back = truncation_root-falls t e d high above R.1 S' })
 
   -- tau(f^0) is (1).
   pub test_ideal-zero : (t : Fraction) → t.numerator ≡ 0 → IsTestIdeal F f t (term 1 origin ∷ [])

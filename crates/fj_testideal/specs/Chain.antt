@@ -2,7 +2,7 @@
 use Rattle.std.specs.Prelude.{◌≡◌, ℕ, ◌^◌, List, [], ◌∷◌}
 use Rattle.fj_coeff.specs.Field.{Field}
 use Rattle.fj_theory.specs.Polynomial.{Polynomial, power}
-use Rattle.fj_theory.specs.Ideal.{multiples}
+use Rattle.fj_theory.specs.Ideal.{Equal, multiples}
 use Rattle.fj_theory.specs.Root.{IsRoot}
 use Rattle.fj_theory.specs.Steps.{StepsTo}
 
@@ -19,3 +19,11 @@ FollowsDigits F f (d ∷ ds) J N = (K : List Polynomial) × FollowsDigits F f ds
 -- last is the last one.
 abbrev pub IsChain : Field → Polynomial → List ℕ → List Polynomial → List (List Polynomial) → List Polynomial → Type 0
 IsChain F f period first lists last = StepsTo (FollowsDigits F f period) first lists last
+
+-- The chain of a period from the first list has come to last, and the next list after last is the same ideal.
+pub record IsLimit (F : Field) (f : Polynomial) (period : List ℕ) (first last : List Polynomial) : Type 0 where
+  pub lists : List (List Polynomial)
+  pub chain : IsChain F f period first lists last
+  pub next : List Polynomial
+  pub follows : FollowsDigits F f period last next
+  pub repeats : Equal F last next

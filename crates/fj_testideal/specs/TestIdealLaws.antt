@@ -1,11 +1,12 @@
 -- Laws of test ideals and left limits, which the law functions prove (Blickle, Mustață and Smith 2008, section 2).
-use Rattle.std.specs.Prelude.{◌≡◌, ℕ, ◌+◌, ◌*◌, ◌<◌, ◌≤◌, List, [], ◌∷◌}
+use Rattle.std.specs.Prelude.{◌≡◌, ◌↔◌, ℕ, ◌+◌, ◌*◌, ◌^◌, ◌<◌, ◌≤◌, List, [], ◌∷◌}
 use Rattle.std.specs.declared.cmp.Ordering.TheVariants.{Less}
 use Rattle.fj_coeff.specs.Field.{Field, IsField}
 use Rattle.fj_theory.specs.Exponents.{origin}
 use Rattle.fj_theory.specs.Polynomial.{Polynomial, IsPolynomial, power, term}
 use Rattle.fj_theory.specs.Ideal.{ArePolynomials, Inside, Equal, multiples}
 use Rattle.fj_theory.specs.Fraction.{Fraction, SameValue, compare}
+use Rattle.fj_theory.specs.Root.{IsRoot}
 use Rattle.fj_testideal.specs.TestIdeal.{IsTestIdeal, IsLeftLimit}
 
 -- There is one test ideal for each value of t: two lists for equal exponents are one ideal, and each list that generates
@@ -42,3 +43,21 @@ pub record WholeNumbersComeOut (F : Field) (f : Polynomial) : Type 0 where
 
 abbrev pub WholeNumbersInExponents : Type 0
 WholeNumbersInExponents = (F : Field) → IsField F → (f : Polynomial) → IsPolynomial F f → WholeNumbersComeOut F f
+
+-- tau(f^(m/p^e)) is the root of f^m at e.
+abbrev pub TestIdealsAreRoots : Type 0
+TestIdealsAreRoots =
+    (F : Field) → IsField F → (f : Polynomial) → IsPolynomial F f → (e m : ℕ) (t : Fraction) → t.numerator * F.characteristic ^ e ≡ m * t.denominator
+    → (T : List Polynomial) → IsTestIdeal F f t T ↔ IsRoot F (F.characteristic ^ e) (power F f m ∷ []) T
+
+-- T is the test ideal at every s below t and near to it: at every s in [near, t), for some number near below t.
+pub record IsTestIdealJustBelow (F : Field) (f : Polynomial) (t : Fraction) (T : List Polynomial) : Type 0 where
+  pub near : Fraction
+  pub is_below : compare near t ≡ Less
+  pub test_ideal : (s : Fraction) → near.numerator * s.denominator ≤ s.numerator * near.denominator → compare s t ≡ Less → IsTestIdeal F f s T
+
+-- The left limit at t is what the test ideals below t and near to it are.
+abbrev pub LeftLimitsAreLimits : Type 0
+LeftLimitsAreLimits =
+    (F : Field) → IsField F → (f : Polynomial) → IsPolynomial F f → (t : Fraction) → 0 < t.numerator
+    → (T : List Polynomial) → IsLeftLimit F f t T ↔ IsTestIdealJustBelow F f t T

@@ -3,6 +3,7 @@
 //! `docs/DEFINITIONS.md` has the definitions in words.
 #![tactic(auto)]
 
+pub mod chains;
 pub mod jumps;
 pub mod leads;
 pub mod lists;
