@@ -17,3 +17,4 @@ pub mod LeftLimit
 pub mod Chain
 pub mod PeriodValue
 pub mod ChainLimit
+pub mod BoundedPeriod

@@ -1,14 +1,15 @@
 -- Laws of chains of ideals that are generated in bounded degree, which the law functions prove.
-use Rattle.std.specs.Prelude.{◌≡◌, ◌≢◌, ◌⊎◌, ℕ, zero, suc, ◌+◌, ◌*◌, ◌^◌, ◌<◌, ◌≤◌, List, [], ◌∷◌, length, All, AllPairs, Contains, Some}
+use Rattle.std.specs.Prelude.{◌≡◌, ◌≢◌, ◌⊎◌, ℕ, zero, suc, ◌+◌, ◌*◌, ◌^◌, ◌<◌, ◌≤◌, List, [], ◌∷◌, length, slice_index_or, All, AllPairs, Contains, Some}
 use Rattle.fj_coeff.specs.Field.{Field, IsField}
 use Rattle.fj_algebra.specs.StrictSteps.{monomial_count}
-use Rattle.fj_theory.specs.Exponents.{total}
+use Rattle.fj_theory.specs.Exponents.{origin, total}
 use Rattle.fj_theory.specs.MonomialOrder.{grevlex_key}
-use Rattle.fj_theory.specs.Polynomial.{Polynomial, IsPolynomial, coefficient, degree, power}
+use Rattle.fj_theory.specs.Polynomial.{Polynomial, IsPolynomial, coefficient, degree, power, term}
 use Rattle.fj_theory.specs.Parts.{Part, IsParts}
 use Rattle.fj_theory.specs.Ideal.{ArePolynomials, Inside, Equal}
 use Rattle.fj_theory.specs.Root.{IsRoot}
 use Rattle.fj_theory.specs.ReducedBasis.{IsReducedBasis}
+use Rattle.fj_testideal.specs.Chain.{FollowsDigits, IsChain}
 use Rattle.fj_testideal.specs.BoundedIdeal.{Variables, number_of, occurs_in, IsBoundedMonomial, IsBounded, IsBoundedIdeal, IsLeadIn, AreLeads}
 
 -- Nested ideals, both generated in bounded degree, with the same leads of bounded degree are equal.
@@ -90,3 +91,34 @@ abbrev pub RootsAreBounded : Type 0
 RootsAreBounded =
     (F : Field) → IsField F → (e m d : ℕ) (f : Polynomial) (M : List Polynomial) → IsPolynomial F f → degree f ≡ Some d → m ≤ F.characteristic ^ e
     → IsRoot F (F.characteristic ^ e) (power F f m ∷ []) M → IsBoundedIdeal F (occurs_in f) d M
+
+-- The list at a place of a chain that starts with the first list.
+abbrev pub chain_at : List Polynomial → List (List Polynomial) → ℕ → List Polynomial
+chain_at first lists i = slice_index_or (first ∷ lists) i first
+
+-- For digits below p: a further period of the chain from (f) gives the same ideal or one with more leads, and of the chain
+-- from (1) the same or one with fewer. Leads are those of degree at most deg f in the variables of f.
+pub record PeriodsMoveLeads (F : Field) (f : Polynomial) (d : ℕ) (period : List ℕ) : Type 0 where
+  pub from_polynomial : (lists : List (List Polynomial)) (last next : List Polynomial) → IsChain F f period (f ∷ []) lists last → FollowsDigits F f period last next
+      → (leads more : List (List ℕ)) → AreLeads F (occurs_in f) d last leads → AreLeads F (occurs_in f) d next more
+      → Equal F last next ⊎ (length leads < length more)
+  pub from_one : (lists : List (List Polynomial)) (last next : List Polynomial) → IsChain F f period (term 1 origin ∷ []) lists last → FollowsDigits F f period last next
+      → (leads fewer : List (List ℕ)) → AreLeads F (occurs_in f) d last leads → AreLeads F (occurs_in f) d next fewer
+      → Equal F last next ⊎ (length fewer < length leads)
+
+abbrev pub EachPeriodMovesLeads : Type 0
+EachPeriodMovesLeads =
+    (F : Field) → IsField F → (f : Polynomial) → IsPolynomial F f → (d : ℕ) → degree f ≡ Some d → (period : List ℕ) → All (λ a. a < F.characteristic) period
+    → PeriodsMoveLeads F f d period
+
+-- For digits below p: the chain of the period from (f) or (1) repeats within C(n + deg f, n) + 1 periods, n the number of
+-- variables that occur in f, where the leads of its ideals are known.
+pub record RepeatsFrom (F : Field) (f : Polynomial) (d : ℕ) (period : List ℕ) (first : List Polynomial) : Type 0 where
+  pub repeats : (lists : List (List Polynomial)) (last : List Polynomial) → IsChain F f period first lists last → (leads : ℕ → List (List ℕ))
+      → ((i : ℕ) → i ≤ length lists → AreLeads F (occurs_in f) d (chain_at first lists i) (leads i))
+      → monomial_count (number_of (occurs_in f)) d < length lists → Repeats F (chain_at first lists) (length lists)
+
+abbrev pub PeriodsRepeat : Type 0
+PeriodsRepeat =
+    (F : Field) → IsField F → (f : Polynomial) → IsPolynomial F f → (d : ℕ) → degree f ≡ Some d → (period : List ℕ) → All (λ a. a < F.characteristic) period
+    → RepeatsFrom F f d period (f ∷ []) × RepeatsFrom F f d period (term 1 origin ∷ [])

@@ -1,7 +1,7 @@
 //! Theorems on chains of ideals that are generated in bounded degree: how many leads they have, and when they repeat. A
 //! function of this module does nothing: its clause is the theorem, and the check proves it.
 
-ghost use Rattle.fj_testideal.specs.LeadLaws.{BasisTellsLeads, EqualByLeads, FallingChainRepeats, LeadsAreFew, MonomialCountIsBinomial, MonomialsCounted, PartsAreBounded, RisingChainRepeats, RootsAreBounded, StrictStepCounts};
+ghost use Rattle.fj_testideal.specs.LeadLaws.{BasisTellsLeads, EachPeriodMovesLeads, EqualByLeads, FallingChainRepeats, LeadsAreFew, MonomialCountIsBinomial, MonomialsCounted, PartsAreBounded, PeriodsRepeat, RisingChainRepeats, RootsAreBounded, StrictStepCounts};
 
 /// Nested ideals, both generated in bounded degree, with the same leads of bounded degree are equal.
 pub fn equal_by_leads()
@@ -47,4 +47,14 @@ pub fn parts_are_bounded()
 /// The root at e of f^m, m <= p^e, is generated in degree at most deg f in the variables of f.
 pub fn roots_are_bounded()
     ensures { RootsAreBounded }
+{}
+
+/// A further period gives the same ideal, or moves the number of leads.
+pub fn each_period_moves_leads()
+    ensures { EachPeriodMovesLeads }
+{}
+
+/// The chains of a period repeat within C(n + deg f, n) + 1 periods.
+pub fn periods_repeat()
+    ensures { PeriodsRepeat }
 {}
