@@ -18,3 +18,5 @@ pub mod Chain
 pub mod PeriodValue
 pub mod ChainLimit
 pub mod BoundedPeriod
+pub mod SumOfPowers
+pub mod FermatCubic

@@ -62,7 +62,7 @@ pub record IsBoundedChain (F : Field) (vars : Variables) (bound : ℕ) (chain : 
   pub bounded : (i : ℕ) → i ≤ last → IsBoundedIdeal F vars bound (chain i)
   pub are_leads : (i : ℕ) → i ≤ last → AreLeads F vars bound (chain i) (leads i)
 
--- The chain repeats: a step to the place or one before it is none.
+-- The chain repeats: two neighbours among its ideals up to the place are equal.
 abbrev pub Repeats : (F : Field) → (ℕ → List Polynomial) → ℕ → Type 0
 Repeats F chain last = (i : ℕ) × (i < last) × Equal F (chain i) (chain (suc i))
 

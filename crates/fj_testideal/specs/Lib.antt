@@ -10,3 +10,4 @@ pub mod TestIdealLaws
 pub mod JumpLaws
 pub mod ListLaws
 pub mod ThresholdLaws
+pub mod CounterexampleLaws

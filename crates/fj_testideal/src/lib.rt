@@ -4,6 +4,7 @@
 #![tactic(auto)]
 
 pub mod chains;
+pub mod counterexamples;
 pub mod jumps;
 pub mod leads;
 pub mod lists;
