@@ -1,3 +1,4 @@
+pub mod Degrees
 pub mod Ceiling
 pub mod PowerRoot
 pub mod TestIdeal
@@ -6,3 +7,5 @@ pub mod LeftLimit
 pub mod Chain
 pub mod PeriodValue
 pub mod ChainLimit
+pub mod MonomialRoot
+pub mod PowersOfVariable

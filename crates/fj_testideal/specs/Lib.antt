@@ -6,3 +6,5 @@ pub mod Chain
 pub mod ChainLaws
 pub mod TestIdealLaws
 pub mod JumpLaws
+pub mod MonomialLaws
+pub mod Examples

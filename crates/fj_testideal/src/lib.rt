@@ -4,5 +4,6 @@
 #![tactic(auto)]
 
 pub mod chains;
+pub mod examples;
 pub mod jumps;
 pub mod test_ideals;
