@@ -16,9 +16,11 @@ use Rattle.fj_theory.proofs.Degree.{degree-power}
 use Rattle.fj_theory.proofs.Frobenius.{power_positive}
 use Rattle.fj_theory.proofs.IdealBridge.{ArePolynomials-single}
 use Rattle.fj_theory.proofs.Ideal.{Equal-sym, Equal-trans, Inside-head}
+use Rattle.fj_theory.proofs.Root.{IsRoot-unique}
 use Rattle.fj_theory.proofs.RootParts.{IsRoot-frobenius_power}
 use Rattle.fj_testideal.specs.TestIdeal.{IsTestIdeal, IsLeftLimit}
 use Rattle.fj_testideal.specs.Jump.{IsJump, IsBetween, IsConstant}
+use Rattle.fj_testideal.specs.JumpLaws.{HoldsChange}
 use Rattle.fj_testideal.proofs.Ceiling.{power_large, ceiling_below, between_low, between_high, just_below, just_below-less, ceil_times-just_below}
 use Rattle.fj_testideal.proofs.Degrees.{degree-Member}
 use Rattle.fj_testideal.proofs.PowerRoot.{IsPowerRoot, power_root-scaled, power_root-unscaled, power_root-squeezed}
@@ -103,6 +105,17 @@ module _ {F : Field} (L : IsField F) {f : Polynomial} (A : IsPolynomial F f) whe
     equal_from_constant I J C =
         Equal-trans L (ArePolynomials-IsTestIdeal I) (ArePolynomials-IsTestIdeal C.at_start) (J.root J.start (omega arith)).polynomials
         (IsTestIdeal-unique I C.at_start) (IsLeftLimit-unique (left_limit_from_constant C) J)
+
+    -- Where tau isn't constant, the number just below t shows it.
+    pub change_from_open : {S T : List Polynomial} → IsTestIdeal F f s S → IsLeftLimit F f t T → (IsConstant F f s t → ⊥) → HoldsChange F f s t S
+    change_from_open I J is_open =
+        let e = max J.start (s.denominator * t.denominator) in
+        record {
+          e = e;
+          m = ceil_times t (F.characteristic ^ e) - 1;
+          between = truncation-IsBetween e (omega arith);
+          differs = λ R. is_open (constant_from_equal I J (IsRoot-unique R (J.root e (omega arith))));
+        }
 
   -- f^m is in (f^q) for no m below q where f isn't constant.
   power_outside : {n m q : ℕ} → degree f ≡ Some n → 0 < n → m < q → Member F (power F f q ∷ []) (power F f m) → ⊥
