@@ -21,7 +21,7 @@ use Rattle.fj_theory.proofs.IdealBridge.{over, maps, InRing-maps, Member_map}
 use Rattle.fj_theory.specs.Fraction.{ceil_times}
 use Rattle.fj_algebra.specs.Power as ring
 use Rattle.fj_theory.proofs.Frobenius as frobenius
-use Rattle.fj_testideal.specs.CounterexampleLaws.{sum_of_cubes, first_three, ThresholdIsntToldAtOne}
+use Rattle.fj_testideal.specs.SearchExamples.{sum_of_cubes, first_three, OneExponentTellsNoThreshold}
 use Rattle.fj_testideal.proofs.SumOfPowers.{exponents, IsExponents-exponents, power_sum, power_sums, count, IsPolynomial-exponents, IsPolynomial-power_sum, coefficient_multiple, divides_first, divides_second, divides_third, coefficient-power_sums, power_sums-append}
 
 five : Contains primes 5
@@ -196,7 +196,7 @@ nineteenth_outside H =
     omega (arith, none, some)
 
 -- 3/4 is as the threshold at e = 1, and isn't the threshold.
-pub not_told_at_one : ThresholdIsntToldAtOne
+pub not_told_at_one : OneExponentTellsNoThreshold
 unfolding ceil_times
 not_told_at_one = record {
   inside_at_one = subst (λ M. Member (prime_field 5) M (power (prime_field 5) (sum_of_cubes (prime_field 5)) 4)) (sym powers_at_one)

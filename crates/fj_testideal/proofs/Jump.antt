@@ -1,29 +1,28 @@
 -- Laws of F-jumping numbers and of constancy: both are read from test ideals and left limits.
-use Rattle.std.proofs.Common.{◌≡◌, ℕ, ◌+◌, ◌-◌, ◌*◌, ◌^◌, ◌<◌, ◌≤◌, max, List, [], ◌∷◌, refl, Option, Some, None, sym, ap, ◌∙◌, subst, arith, ⊎_elim, eq-zero-or-pos}
+use Rattle.std.proofs.Common.{◌≡◌, ℕ, ◌+◌, ◌-◌, ◌*◌, ◌^◌, ◌<◌, ◌≤◌, max, List, [], ◌∷◌, Some, sym, ap, subst, arith, ⊎_elim, eq-zero-or-pos}
 use Rattle.std.specs.declared.cmp.Ordering.TheVariants.{Less}
-use Rattle.std.specs.FinMap.{empty}
 use Rattle.std.proofs.lemmas.Nat.{pow-add}
-use Rattle.std.proofs.lemmas.Option.{none-some, same_Some}
 use Rattle.std.proofs.Math.Nat.{mul-le-mul_right}
 use Rattle.fj_coeff.specs.Field.{Field, IsField}
-use Rattle.fj_theory.specs.Polynomial.{Polynomial, IsPolynomial, power, product, degree}
-use Rattle.fj_theory.specs.Ideal.{ArePolynomials, combination, Member, Equal}
+use Rattle.fj_theory.specs.Polynomial.{Polynomial, IsPolynomial, power, degree}
+use Rattle.fj_theory.specs.Ideal.{ArePolynomials, Member, Equal}
 use Rattle.fj_theory.specs.Fraction.{Fraction, compare, ceil_times}
 use Rattle.fj_theory.specs.Digits.{truncation}
 use Rattle.fj_theory.proofs.Fraction.{ceil_times-IsCeiling, ceil_times-whole, less_from_compare}
 use Rattle.fj_theory.proofs.Digits.{truncation-IsTruncation}
 use Rattle.fj_theory.proofs.Field.{characteristic_large}
-use Rattle.fj_theory.proofs.Product.{IsPolynomial-product}
-use Rattle.fj_theory.proofs.PolynomialRing.{IsPolynomial-power, sum_empty, product_comm, product_empty}
-use Rattle.fj_theory.proofs.Polynomial.{IsPolynomial-empty}
-use Rattle.fj_theory.proofs.Degree.{degree-empty, empty_from_degree, degree-product, degree-power}
+use Rattle.fj_theory.proofs.PolynomialRing.{IsPolynomial-power}
+use Rattle.fj_theory.proofs.Degree.{degree-power}
 use Rattle.fj_theory.proofs.Frobenius.{power_positive}
 use Rattle.fj_theory.proofs.IdealBridge.{ArePolynomials-single}
 use Rattle.fj_theory.proofs.Ideal.{Equal-sym, Equal-trans, Inside-head}
+use Rattle.fj_theory.proofs.Root.{IsRoot-unique}
 use Rattle.fj_theory.proofs.RootParts.{IsRoot-frobenius_power}
 use Rattle.fj_testideal.specs.TestIdeal.{IsTestIdeal, IsLeftLimit}
 use Rattle.fj_testideal.specs.Jump.{IsJump, IsBetween, IsConstant}
+use Rattle.fj_testideal.specs.JumpLaws.{HoldsChange}
 use Rattle.fj_testideal.proofs.Ceiling.{power_large, ceiling_below, between_low, between_high, just_below, just_below-less, ceil_times-just_below}
+use Rattle.fj_testideal.proofs.Degrees.{degree-Member}
 use Rattle.fj_testideal.proofs.PowerRoot.{IsPowerRoot, power_root-scaled, power_root-unscaled, power_root-squeezed}
 use Rattle.fj_testideal.proofs.TestIdeal.{IsTestIdeal-unique, IsLeftLimit-unique, IsTestIdeal-Equal, IsLeftLimit-Equal, left_limit-inside, test_ideal-inside}
 
@@ -107,24 +106,23 @@ module _ {F : Field} (L : IsField F) {f : Polynomial} (A : IsPolynomial F f) whe
         Equal-trans L (ArePolynomials-IsTestIdeal I) (ArePolynomials-IsTestIdeal C.at_start) (J.root J.start (omega arith)).polynomials
         (IsTestIdeal-unique I C.at_start) (IsLeftLimit-unique (left_limit_from_constant C) J)
 
+    -- Where tau isn't constant, the number just below t shows it.
+    pub change_from_open : {S T : List Polynomial} → IsTestIdeal F f s S → IsLeftLimit F f t T → (IsConstant F f s t → ⊥) → HoldsChange F f s t S
+    change_from_open I J is_open =
+        let e = max J.start (s.denominator * t.denominator) in
+        record {
+          e = e;
+          m = ceil_times t (F.characteristic ^ e) - 1;
+          between = truncation-IsBetween e (omega arith);
+          differs = λ R. is_open (constant_from_equal I J (IsRoot-unique R (J.root e (omega arith))));
+        }
+
   -- f^m is in (f^q) for no m below q where f isn't constant.
   power_outside : {n m q : ℕ} → degree f ≡ Some n → 0 < n → m < q → Member F (power F f q ∷ []) (power F f m) → ⊥
-  unfolding combination
-  power_outside {n} {m} {q} D positive less H = compare_degrees (degree (H.cofactors 0)) refl
-    where
-      is : power F f m ≡ product F (H.cofactors 0) (power F f q)
-      is = H.is ∙ sum_empty L (IsPolynomial-product L (H.polynomials 0) (IsPolynomial-power L A q))
-
-      compare_degrees : (d : Option ℕ) → degree (H.cofactors 0) ≡ d → ⊥
-      compare_degrees None none =
-          let Q = IsPolynomial-power L A q in
-          let factor : H.cofactors 0 ≡ empty = empty_from_degree L (H.polynomials 0) none in
-          let zero_power : power F f m ≡ empty = is ∙ ap (λ c. product F c (power F f q)) factor ∙ product_comm L (IsPolynomial-empty F) Q ∙ product_empty L Q in
-          none-some (m * n) (sym degree-empty ∙ ap degree (sym zero_power) ∙ degree-power L A D m)
-      compare_degrees (Some k) some =
-          let sizes : m * n ≡ k + q * n = same_Some _ _ (sym (degree-power L A D m) ∙ ap degree is ∙ degree-product L (H.polynomials 0) (IsPolynomial-power L A q) some (degree-power L A D q)) in
-          let larger : (m + 1) * n ≤ q * n = mul-le-mul_right n (omega arith) in
-          absurd (omega arith)
+  power_outside {n} {m} {q} D positive less H =
+      let sizes : q * n ≤ m * n = degree-Member L (IsPolynomial-power L A q) (degree-power L A D q) (degree-power L A D m) H in
+      let larger : (m + 1) * n ≤ q * n = mul-le-mul_right n (omega arith) in
+      absurd (omega arith)
 
   -- 1 is an F-jumping number of each polynomial that isn't constant.
   pub one_is_jump : (n : ℕ) → degree f ≡ Some n → 0 < n → (t : Fraction) → t.numerator ≡ t.denominator → IsJump F f t

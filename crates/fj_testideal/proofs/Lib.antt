@@ -6,6 +6,7 @@ pub mod MonomialList
 pub mod BoundedIdeal
 pub mod BoundedChain
 pub mod BoundedParts
+pub mod Degrees
 pub mod Ceiling
 pub mod PowerRoot
 pub mod TestIdeal
@@ -20,3 +21,6 @@ pub mod ChainLimit
 pub mod BoundedPeriod
 pub mod SumOfPowers
 pub mod FermatCubic
+pub mod MonomialRoot
+pub mod PowersOfVariable
+pub mod InnerPoint

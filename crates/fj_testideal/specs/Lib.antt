@@ -10,4 +10,6 @@ pub mod TestIdealLaws
 pub mod JumpLaws
 pub mod ListLaws
 pub mod ThresholdLaws
-pub mod CounterexampleLaws
+pub mod SearchExamples
+pub mod MonomialLaws
+pub mod Examples

@@ -4,7 +4,7 @@
 #![tactic(auto)]
 
 pub mod chains;
-pub mod counterexamples;
+pub mod examples;
 pub mod jumps;
 pub mod leads;
 pub mod lists;

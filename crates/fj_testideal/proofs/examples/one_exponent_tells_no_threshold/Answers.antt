@@ -1,5 +1,5 @@
 use Rattle.fj_testideal.proofs.FermatCubic.{not_told_at_one}
-use Rattle.fj_testideal.proofs.counterexamples.threshold_isnt_told_at_one.Goals as goal
+use Rattle.fj_testideal.proofs.examples.one_exponent_tells_no_threshold.Goals as goal
 
 pub returns : goal.returns
 returns c = not_told_at_one
