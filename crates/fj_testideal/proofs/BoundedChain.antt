@@ -41,6 +41,14 @@ AreLeads-few {vars = vars} {bound = bound} {leads = leads} h =
     (λ a c. contains-monomials_up_to vars bound a (All-contains (IsBoundedMonomial vars bound) leads a h.bounded c)) in
     omega (arith, few, length-monomials_up_to vars bound)
 
+-- Whether a lead of the list divides the monomial.
+reduces : List Polynomial → List ℕ → Bool
+reduces G a = list_any (λ g. divides (lead_exponents grevlex_key g) a) G
+
+-- The leads of bounded degree, from a reduced basis.
+pub leads_up_to : Variables → ℕ → List Polynomial → List (List ℕ)
+leads_up_to vars bound G = filter (reduces G) (monomials_up_to vars bound)
+
 -- Whether a list of exponents is in a list of them is decided.
 listed : (xs : List (List ℕ)) (a : List ℕ) → Dec (Contains xs a)
 listed xs a = go (list_any (same a) xs) refl
@@ -77,14 +85,7 @@ module _ {F : Field} (L : IsField F) where
     LeadDivides-IsLeadIn : {a : List ℕ} → IsLeadIn F M a → LeadDivides grevlex_key G a
     LeadDivides-IsLeadIn l = subst (LeadDivides grevlex_key G) l.lead (basis.covers l.member l.in_ideal l.nonzero)
 
-  -- Whether a lead of the list divides the monomial.
-  reduces : List Polynomial → List ℕ → Bool
-  reduces G a = list_any (λ g. divides (lead_exponents grevlex_key g) a) G
-
-  -- The leads of bounded degree, from a reduced basis.
-  pub leads_up_to : Variables → ℕ → List Polynomial → List (List ℕ)
-  leads_up_to vars bound G = filter (reduces G) (monomials_up_to vars bound)
-
+  -- They are the leads of members.
   pub AreLeads-leads_up_to : (vars : Variables) (bound : ℕ) {M G : List Polynomial} → ArePolynomials F M → IsReducedBasis F grevlex_key M G
       → AreLeads F vars bound M (leads_up_to vars bound G)
   unfolding leads_up_to reduces

@@ -1,18 +1,23 @@
 -- Laws of F-thresholds: powers inside (J^[q]) by roots, thresholds by limits, and the gap that has the threshold inside.
-use Rattle.std.proofs.Common.{◌≡◌, ◌↔◌, ◌⊎◌, inl, inr, ℕ, ◌+◌, ◌-◌, ◌*◌, ◌^◌, ◌<◌, ◌≤◌, List, refl, sym, ap, ◌∙◌, subst, arith, Ordering, Less, Equal, Greater}
+use Rattle.std.proofs.Common.{◌≡◌, ◌↔◌, ◌⊎◌, inl, inr, ℕ, suc, ◌+◌, ◌-◌, ◌*◌, ◌^◌, ◌<◌, ◌≤◌, List, [], ◌∷◌, refl, sym, ap, ◌∙◌, subst, arith, Ordering, Less, Equal, Greater}
 use Rattle.std.specs.Ordering.{ordering_reverse}
 use Rattle.std.proofs.Math.Nat.{one-le-pow}
+use Rattle.std.proofs.lemmas.Bool.{cases_lt}
 use Rattle.fj_coeff.specs.Field.{Field, IsField}
-use Rattle.fj_theory.specs.Polynomial.{Polynomial, IsPolynomial}
+use Rattle.fj_theory.specs.Exponents.{origin}
+use Rattle.fj_theory.specs.Root.{IsRoot}
+use Rattle.fj_theory.specs.Polynomial.{Polynomial, IsPolynomial, term}
 use Rattle.fj_theory.specs.Ideal.{ArePolynomials, Inside}
 use Rattle.fj_theory.specs.Fraction.{Fraction, SameValue, compare, ceil_times}
-use Rattle.fj_theory.proofs.Fraction.{ceil_times-le, ceil_times-SameValue, SameValue-from_compare, compare-IsTotalOrder}
+use Rattle.fj_theory.proofs.RootParts.{IsRoot-one}
+use Rattle.fj_theory.proofs.PolynomialRing.{power_zero}
+use Rattle.fj_theory.proofs.Fraction.{ceil_times-le, ceil_times-SameValue, SameValue-from_compare, compare-IsTotalOrder, compare-less}
 use Rattle.fj_theory.proofs.Field.{characteristic_large}
 use Rattle.fj_theory.proofs.Ideal.{Inside-single, Inside-head, Inside-trans}
 use Rattle.fj_theory.proofs.Root.{Inside-IsRoot}
 use Rattle.fj_theory.proofs.FrobeniusPower.{Member-frobenius_power}
 use Rattle.fj_testideal.specs.TestIdeal.{IsTestIdeal, IsLeftLimit}
-use Rattle.fj_testideal.specs.Threshold.{IsPowerInside, IsNu, IsThreshold}
+use Rattle.fj_testideal.specs.Threshold.{IsProper, IsPowerInside, IsNu, IsThreshold}
 use Rattle.fj_testideal.specs.ThresholdLaws.{NuIsOne, ThresholdIsOne}
 use Rattle.fj_testideal.proofs.Ceiling.{power_large, ceiling_positive, ceiling_below, ceiling_rises, truncation_rises}
 use Rattle.fj_testideal.proofs.PowerRoot.{IsPowerRoot, ArePolynomials-power, power_root, power_root-falls, power_root-scaled}
@@ -84,8 +89,23 @@ module _ {F : Field} (L : IsField F) {f : Polynomial} (A : IsPolynomial F f) {J 
   compare_numbers : (i j : ℕ) → (i < j) ⊎ ((i ≡ j) ⊎ (j < i))
   compare_numbers i j = grind arith
 
+  power_outside-zero : (e : ℕ) → IsProper F J → IsPowerInside F f J e 0 → ⊥
+  power_outside-zero e proper inside =
+      let R = IsRoot-one L e in
+      proper (Inside-head ((Inside-IsRoot L e (ArePolynomials-power L A 0) (subst (λ g. IsRoot F (F.characteristic ^ e) (g ∷ []) (term 1 origin ∷ [])) (sym (power_zero L A)) R) P).1 (Inside-single inside)))
+
+  nu_by_next : (e r : ℕ) → IsNu F f J e r ↔ ((IsPowerInside F f J e r → ⊥) × IsPowerInside F f J e (suc r))
+  nu_by_next e r = (
+    λ N. (N.outside, N.greatest (suc r) (omega arith)),
+    λ h. record { outside = h.0; greatest = λ k l. power_inside-more e l h.1 },
+  )
+
   pub nu_is_one : NuIsOne F f J
   nu_is_one = record {
+    higher = λ e m n h inside. power_inside-more e h inside;
+    at_zero = power_outside-zero;
+    at_power = λ e H. Member-frobenius_power L e P H;
+    by_next = nu_by_next;
     unique = λ e r s N M. elim (compare_numbers r s) [
       | inl l ↦ absurd (M.outside (N.greatest s l))
       | inr (inl same) ↦ same
@@ -139,5 +159,19 @@ module _ {F : Field} (L : IsField F) {f : Polynomial} (A : IsPolynomial F f) {J 
     },
   )
 
+  -- It is the least number whose test ideal is inside (J).
+  threshold_least : (t : Fraction) → IsThreshold F f J t → (s : Fraction) (S : List Polynomial) → IsTestIdeal F f s S
+      → Inside F S J ↔ (t.numerator * s.denominator ≤ s.numerator * t.denominator)
+  threshold_least t h s S I = (
+    λ i. elim (cases_lt (s.numerator * t.denominator) (t.numerator * s.denominator)) [
+      | inl less ↦
+          let e = s.denominator * t.denominator in
+          let low = ceiling_below s t (F.characteristic ^ e) (compare-less s t less) (power_large F.characteristic e (characteristic_large L)) in
+          absurd (h.outside e (power_inside-more e low ((test_ideal_inside s I).0 i e)))
+      | inr more ↦ more
+    ],
+    λ at_most. (test_ideal_inside s I).1 (λ e. power_inside-more e (ceil_times-le t s (F.characteristic ^ e) at_most) (h.inside e)),
+  )
+
   pub threshold_is_one : ThresholdIsOne F f J
-  threshold_is_one = record { by_nu = threshold_by_nu; unique = threshold_unique; same = IsThreshold-SameValue }
+  threshold_is_one = record { by_nu = threshold_by_nu; unique = threshold_unique; same = IsThreshold-SameValue; least = threshold_least }

@@ -1,5 +1,5 @@
 -- Laws of F-thresholds, which the law functions prove (Mustață, Takagi and Watanabe 2005; Blickle, Mustață and Smith 2008).
-use Rattle.std.specs.Prelude.{◌≡◌, ◌↔◌, ◌⊎◌, ℕ, ◌-◌, ◌^◌, ◌<◌, ◌≤◌, List, [], ◌∷◌, All, Any, Contains}
+use Rattle.std.specs.Prelude.{◌≡◌, ◌↔◌, ◌⊎◌, ℕ, suc, ◌-◌, ◌*◌, ◌^◌, ◌<◌, ◌≤◌, List, [], ◌∷◌, All, Any, Contains}
 use Rattle.fj_coeff.specs.Field.{Field, IsField}
 use Rattle.fj_theory.specs.Polynomial.{Polynomial, IsPolynomial, power}
 use Rattle.fj_theory.specs.Ideal.{ArePolynomials, Member, Inside}
@@ -15,17 +15,24 @@ PowersInsideByRoots =
     (F : Field) → IsField F → (f : Polynomial) → IsPolynomial F f → (J : List Polynomial) → ArePolynomials F J → (e m : ℕ) (M : List Polynomial)
     → IsRoot F (F.characteristic ^ e) (power F f m ∷ []) M → IsPowerInside F f J e m ↔ Inside F M J
 
--- nu(e) is one number. Where f is in (J), it is below p^e.
+-- A higher power of f is in (J^[q]) where a lower one is. f^0 isn't where (J) is proper, and f^q is where f is in (J). So
+-- nu(e) is told by r and r + 1, is one number, and is below p^e where f is in (J).
 pub record NuIsOne (F : Field) (f : Polynomial) (J : List Polynomial) : Type 0 where
+  pub higher : (e m n : ℕ) → m ≤ n → IsPowerInside F f J e m → IsPowerInside F f J e n
+  pub at_zero : (e : ℕ) → IsProper F J → IsPowerInside F f J e 0 → ⊥
+  pub at_power : (e : ℕ) → Member F J f → IsPowerInside F f J e (F.characteristic ^ e)
+  pub by_next : (e r : ℕ) → IsNu F f J e r ↔ ((IsPowerInside F f J e r → ⊥) × IsPowerInside F f J e (suc r))
   pub unique : (e r s : ℕ) → IsNu F f J e r → IsNu F f J e s → r ≡ s
   pub below : (e r : ℕ) → Member F J f → IsNu F f J e r → r < F.characteristic ^ e
 
 -- t is the threshold exactly where nu(e) = ceil(t*p^e) - 1 for every e. All thresholds have one value, and each fraction of
--- this value is one.
+-- this value is one. It is the least t whose test ideal is inside (J).
 pub record ThresholdIsOne (F : Field) (f : Polynomial) (J : List Polynomial) : Type 0 where
   pub by_nu : (t : Fraction) → 0 < t.numerator → IsThreshold F f J t ↔ ((e : ℕ) → IsNu F f J e (ceil_times t (F.characteristic ^ e) - 1))
   pub unique : (s t : Fraction) → IsThreshold F f J s → IsThreshold F f J t → SameValue s t
   pub same : (s t : Fraction) → SameValue s t → IsThreshold F f J s → IsThreshold F f J t
+  pub least : (t : Fraction) → IsThreshold F f J t → (s : Fraction) (S : List Polynomial) → IsTestIdeal F f s S
+      → Inside F S J ↔ (t.numerator * s.denominator ≤ s.numerator * t.denominator)
 
 abbrev pub NuAndThresholdAreOne : Type 0
 NuAndThresholdAreOne =
