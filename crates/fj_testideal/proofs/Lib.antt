@@ -4,6 +4,7 @@ pub mod PowerRoot
 pub mod TestIdeal
 pub mod Jump
 pub mod LeftLimit
+pub mod ConstantInside
 pub mod Chain
 pub mod PeriodValue
 pub mod ChainLimit
