@@ -35,10 +35,17 @@ module _ {F : Field} (L : IsField F) {f : Polynomial} (A : IsPolynomial F f) whe
   unit : ArePolynomials F (term 1 origin ∷ [])
   unit = ArePolynomials-single (IsPolynomial-one L)
 
-  module _ (period : List ℕ) (lists : List (List Polynomial)) {last next : List Polynomial} where
+  module _ (period : List ℕ) (lists : List (List Polynomial)) {last : List Polynomial} where
+    -- Where the chains from (f) and from (1) are.
+    pub chain_root_from_f : IsChain F f period (f ∷ []) lists last → IsPowerRoot F f (length lists * length period) (repeated (F.characteristic ^ length period) (value_of F.characteristic period) (length lists) + 1) last
+    chain_root_from_f chain = from_self (length lists * length period) _ (IsAfter-start L A period own lists chain)
+
+    pub chain_root_from_one : IsChain F f period (term 1 origin ∷ []) lists last → IsPowerRoot F f (length lists * length period) (repeated (F.characteristic ^ length period) (value_of F.characteristic period) (length lists)) last
+    chain_root_from_one chain = from_unit (length lists * length period) _ (IsAfter-start L A period unit lists chain)
+
     -- The chain from (f) rises, and the chain from (1) falls.
-    pub chain_rises : All (λ d. d < F.characteristic) period → IsChain F f period (f ∷ []) lists last → FollowsDigits F f period last next → Inside F last next
-    chain_rises below chain follows =
+    pub chain_rises : {next : List Polynomial} → All (λ d. d < F.characteristic) period → IsChain F f period (f ∷ []) lists last → FollowsDigits F f period last next → Inside F last next
+    chain_rises {next} below chain follows =
         let p = F.characteristic in
         let b = length period in
         let a = value_of p period in
@@ -50,8 +57,8 @@ module _ {F : Field} (L : IsField F) {f : Polynomial} (A : IsPolynomial F f) whe
         power_root-rises_across L A (k * b) b (repeated (p ^ b) a k + 1) _ (from_self (k * b) _ R) T
         (omega (arith, repeated_last (p ^ b) a k, value_of_below p period below))
 
-    pub chain_falls : IsChain F f period (term 1 origin ∷ []) lists last → FollowsDigits F f period last next → Inside F next last
-    chain_falls chain follows =
+    pub chain_falls : {next : List Polynomial} → IsChain F f period (term 1 origin ∷ []) lists last → FollowsDigits F f period last next → Inside F next last
+    chain_falls {next} chain follows =
         let p = F.characteristic in
         let b = length period in
         let a = value_of p period in
@@ -70,47 +77,57 @@ module _ {F : Field} (L : IsField F) {f : Polynomial} (A : IsPolynomial F f) whe
     place : ℕ → ℕ
     place k = length pre + k * length period
 
-    -- From the limit, the digits before the period reach the root at c + k b for every large k.
-    reached : {S J T : List Polynomial} (P : ArePolynomials F S) (limit : IsLimit F f period S J) → FollowsDigits F f pre J T → (i : ℕ)
+    -- From the limit, the root for the digits before the period is the root at c + k b for every large k.
+    reached : {S J T : List Polynomial} (P : ArePolynomials F S) (limit : IsLimit F f period S J) → IsMultipleRoot F f J (length pre) (value_of F.characteristic pre) T → (i : ℕ)
         → IsMultipleRoot F f S (place (i + length limit.lists)) (ceil_times t (F.characteristic ^ place (i + length limit.lists)) - 1) T
     unfolding place
-    reached {S} {T = T} P limit follows i =
+    reached {S} {T = T} P limit root i =
         let k = i + length limit.lists in
         let R = IsAfter-limit L A period P limit i in
         subst (λ m. IsMultipleRoot F f S (length pre + k * length period) m T) (sym (number k))
-        (IsRoot-digit L (length pre) (k * length period) A _ _ P R (FollowsDigits-root L A pre R.polynomials follows))
+        (IsRoot-digit L (length pre) (k * length period) A _ _ P R root)
 
     -- The place after e more periods is at least e.
     later : (e n : ℕ) → e ≤ place (e + n)
     unfolding place
     later e n = let product : (e + n) * 1 ≤ (e + n) * length period = mul-le-mul_left (e + n) some in omega arith
 
-    pub test_ideal-reached : {J T : List Polynomial} → IsLimit F f period (f ∷ []) J → FollowsDigits F f pre J T → IsTestIdeal F f t T
-    test_ideal-reached {T = T} limit follows =
+    pub test_ideal-reached : {J T : List Polynomial} → IsLimit F f period (f ∷ []) J → IsMultipleRoot F f J (length pre) (value_of F.characteristic pre) T → IsTestIdeal F f t T
+    test_ideal-reached {T = T} limit before =
         let p = F.characteristic in
         let n = length limit.lists in
         let root : (i : ℕ) → IsPowerRoot F f (place (i + n)) (ceil_times t (p ^ place (i + n))) T = λ i.
         let positive : 0 < ceil_times t (p ^ place (i + n)) = ceiling_positive t (p ^ place (i + n)) above (power_positive L (place (i + n))) in
         let whole : ceil_times t (p ^ place (i + n)) - 1 + 1 ≡ ceil_times t (p ^ place (i + n)) = omega arith in
-        subst (λ m. IsPowerRoot F f (place (i + n)) m T) whole (from_self (place (i + n)) _ (reached own limit follows i)) in
+        subst (λ m. IsPowerRoot F f (place (i + n)) m T) whole (from_self (place (i + n)) _ (reached own limit before i)) in
         record { start = place (0 + n); root = λ e h. ceiling_root-between L A t (place (0 + n)) e (place (e + n)) h (later e n) (root 0) (root e) }
 
-    pub left_limit-reached : {J T : List Polynomial} → IsLimit F f period (term 1 origin ∷ []) J → FollowsDigits F f pre J T → IsLeftLimit F f t T
-    left_limit-reached {T = T} limit follows =
+    pub left_limit-reached : {J T : List Polynomial} → IsLimit F f period (term 1 origin ∷ []) J → IsMultipleRoot F f J (length pre) (value_of F.characteristic pre) T → IsLeftLimit F f t T
+    left_limit-reached {T = T} limit before =
         let n = length limit.lists in
         let root : (i : ℕ) → IsPowerRoot F f (place (i + n)) (ceil_times t (F.characteristic ^ place (i + n)) - 1) T =
-        λ i. from_unit (place (i + n)) _ (reached unit limit follows i) in
+        λ i. from_unit (place (i + n)) _ (reached unit limit before i) in
         record { start = place (0 + n); root = λ e h. truncation_root-between L A t (place (0 + n)) e (place (e + n)) h (later e n) above (root 0) (root e) }
+
+  -- The lists of a chain are polynomials.
+  ArePolynomials-IsLimit : (period : List ℕ) {S J : List Polynomial} → ArePolynomials F S → IsLimit F f period S J → ArePolynomials F J
+  ArePolynomials-IsLimit period P limit = (IsAfter-limit L A period P limit 0).polynomials
 
   module _ (t : Fraction) (interval : IsInUnitInterval t) (d : Expansion) (expansion : IsExpansion F.characteristic t d) {J T : List Polynomial} where
     -- The test ideal and the left limit by the digits of a fraction.
+    pub test_ideal-from_root : IsLimit F f d.period (f ∷ []) J → IsMultipleRoot F f J (length d.pre) (value_of F.characteristic d.pre) T → IsTestIdeal F f t T
+    test_ideal-from_root limit before =
+        test_ideal-reached t interval.above_zero d.pre d.period expansion.lengths.order.positive (number_from_expansion F.characteristic t d (omega (arith, characteristic_large L)) interval expansion) limit before
+
+    pub left_limit-from_root : IsLimit F f d.period (term 1 origin ∷ []) J → IsMultipleRoot F f J (length d.pre) (value_of F.characteristic d.pre) T → IsLeftLimit F f t T
+    left_limit-from_root limit before =
+        left_limit-reached t interval.above_zero d.pre d.period expansion.lengths.order.positive (number_from_expansion F.characteristic t d (omega (arith, characteristic_large L)) interval expansion) limit before
+
     pub test_ideal-from_digits : IsLimit F f d.period (f ∷ []) J → FollowsDigits F f d.pre J T → IsTestIdeal F f t T
-    test_ideal-from_digits limit follows =
-        test_ideal-reached t interval.above_zero d.pre d.period expansion.lengths.order.positive (number_from_expansion F.characteristic t d (omega (arith, characteristic_large L)) interval expansion) limit follows
+    test_ideal-from_digits limit follows = test_ideal-from_root limit (FollowsDigits-root L A d.pre (ArePolynomials-IsLimit d.period own limit) follows)
 
     pub left_limit-from_digits : IsLimit F f d.period (term 1 origin ∷ []) J → FollowsDigits F f d.pre J T → IsLeftLimit F f t T
-    left_limit-from_digits limit follows =
-        left_limit-reached t interval.above_zero d.pre d.period expansion.lengths.order.positive (number_from_expansion F.characteristic t d (omega (arith, characteristic_large L)) interval expansion) limit follows
+    left_limit-from_digits limit follows = left_limit-from_root limit (FollowsDigits-root L A d.pre (ArePolynomials-IsLimit d.period unit limit) follows)
 
   module _ (period : List ℕ) (below : All (λ d. d < F.characteristic) period) (some : 0 < value_of F.characteristic period)
       (u : Fraction) (value : u.numerator * (F.characteristic ^ length period - 1) ≡ value_of F.characteristic period * u.denominator) {J : List Polynomial} where
@@ -119,10 +136,12 @@ module _ {F : Field} (L : IsField F) {f : Polynomial} (A : IsPolynomial F f) whe
     test_ideal-from_period limit =
         let p = F.characteristic in
         let large = characteristic_large L in
-        test_ideal-reached u (period_above p period u large below some value) [] period (period_length p period u large below some value) (number_from_period p period u large below some value) limit refl
+        test_ideal-reached u (period_above p period u large below some value) [] period (period_length p period u large below some value) (number_from_period p period u large below some value) limit
+        (FollowsDigits-root L A [] (ArePolynomials-IsLimit period own limit) refl)
 
     pub left_limit-from_period : IsLimit F f period (term 1 origin ∷ []) J → IsLeftLimit F f u J
     left_limit-from_period limit =
         let p = F.characteristic in
         let large = characteristic_large L in
-        left_limit-reached u (period_above p period u large below some value) [] period (period_length p period u large below some value) (number_from_period p period u large below some value) limit refl
+        left_limit-reached u (period_above p period u large below some value) [] period (period_length p period u large below some value) (number_from_period p period u large below some value) limit
+        (FollowsDigits-root L A [] (ArePolynomials-IsLimit period unit limit) refl)

@@ -30,7 +30,7 @@ use Rattle.fj_testideal.proofs.TestIdeal.{IsTestIdeal-unique, IsLeftLimit-unique
 pub ArePolynomials-IsTestIdeal : {F : Field} {f : Polynomial} {t : Fraction} {T : List Polynomial} → IsTestIdeal F f t T → ArePolynomials F T
 ArePolynomials-IsTestIdeal S = (S.root S.start (omega arith)).polynomials
 
-above_zero_from_less : (s t : Fraction) → compare s t ≡ Less → 0 < t.numerator
+pub above_zero_from_less : (s t : Fraction) → compare s t ≡ Less → 0 < t.numerator
 above_zero_from_less s t less = ⊎_elim
     (λ none. let product : t.numerator * s.denominator ≡ 0 * s.denominator = ap (λ n. n * s.denominator) none in absurd (omega (arith, less_from_compare s t less)))
     (λ some. some) (eq-zero-or-pos t.numerator)

@@ -15,6 +15,7 @@ pub mod CompleteList
 pub mod Threshold
 pub mod ThresholdGap
 pub mod LeftLimit
+pub mod ConstantInside
 pub mod Chain
 pub mod PeriodValue
 pub mod ChainLimit

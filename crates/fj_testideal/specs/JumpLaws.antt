@@ -7,6 +7,7 @@ use Rattle.fj_theory.specs.Ideal.{Equal}
 use Rattle.fj_theory.specs.Fraction.{Fraction, compare}
 use Rattle.fj_theory.specs.Root.{IsRoot}
 use Rattle.fj_testideal.specs.TestIdeal.{IsTestIdeal, IsLeftLimit}
+use Rattle.fj_testideal.specs.TestIdealLaws.{IsAtMost}
 use Rattle.fj_testideal.specs.Jump.{IsJump, IsBetween, IsConstant}
 
 -- t > 0 is an F-jumping number exactly where the test ideal and the left limit at t differ.
@@ -41,3 +42,16 @@ abbrev pub OpenGapsHoldChanges : Type 0
 OpenGapsHoldChanges =
     (F : Field) → IsField F → (f : Polynomial) → IsPolynomial F f → (s t : Fraction) → compare s t ≡ Less
     → (S T : List Polynomial) → IsTestIdeal F f s S → IsLeftLimit F f t T → (IsConstant F f s t → ⊥) → HoldsChange F f s t S
+
+-- On an interval [s, t) on which tau is constant, its one ideal is the test ideal at each r with s <= r < t and the left
+-- limit at each r with s < r <= t, tau is constant on each [r, u) in it, and no r with s < r < t is an F-jumping number.
+pub record IsConstantInside (F : Field) (f : Polynomial) (s t : Fraction) (T : List Polynomial) : Type 0 where
+  pub test_ideal : (r : Fraction) → IsAtMost s r → compare r t ≡ Less → IsTestIdeal F f r T
+  pub left_limit : (r : Fraction) → compare s r ≡ Less → IsAtMost r t → IsLeftLimit F f r T
+  pub smaller : (r u : Fraction) → IsAtMost s r → compare r u ≡ Less → IsAtMost u t → IsConstant F f r u
+  pub no_jump : (r : Fraction) → compare s r ≡ Less → compare r t ≡ Less → IsJump F f r → ⊥
+
+abbrev pub ConstancyGoesInside : Type 0
+ConstancyGoesInside =
+    (F : Field) → IsField F → (f : Polynomial) → IsPolynomial F f → (s t : Fraction) → compare s t ≡ Less
+    → (constant : IsConstant F f s t) → IsConstantInside F f s t constant.ideal

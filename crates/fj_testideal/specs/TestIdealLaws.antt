@@ -20,11 +20,15 @@ pub record AreUnique (F : Field) (f : Polynomial) : Type 0 where
 abbrev pub LimitsAreUnique : Type 0
 LimitsAreUnique = (F : Field) → IsField F → (f : Polynomial) → IsPolynomial F f → AreUnique F f
 
+-- s <= t by value.
+abbrev pub IsAtMost : Fraction → Fraction → Type 0
+IsAtMost s t = s.numerator * t.denominator ≤ t.numerator * s.denominator
+
 -- The test ideal falls as t grows, and so does the left limit. The left limit at t has the test ideal at t inside, and is
 -- inside the test ideal at each s below t.
 pub record AreFalling (F : Field) (f : Polynomial) : Type 0 where
-  pub test_ideals : (s t : Fraction) (S T : List Polynomial) → s.numerator * t.denominator ≤ t.numerator * s.denominator → IsTestIdeal F f s S → IsTestIdeal F f t T → Inside F T S
-  pub left_limits : (s t : Fraction) (S T : List Polynomial) → s.numerator * t.denominator ≤ t.numerator * s.denominator → IsLeftLimit F f s S → IsLeftLimit F f t T → Inside F T S
+  pub test_ideals : (s t : Fraction) (S T : List Polynomial) → IsAtMost s t → IsTestIdeal F f s S → IsTestIdeal F f t T → Inside F T S
+  pub left_limits : (s t : Fraction) (S T : List Polynomial) → IsAtMost s t → IsLeftLimit F f s S → IsLeftLimit F f t T → Inside F T S
   pub at_one_place : (t : Fraction) (S T : List Polynomial) → IsLeftLimit F f t S → IsTestIdeal F f t T → Inside F T S
   pub below : (s t : Fraction) (S T : List Polynomial) → compare s t ≡ Less → IsTestIdeal F f s S → IsLeftLimit F f t T → Inside F T S
 
@@ -54,7 +58,7 @@ TestIdealsAreRoots =
 pub record IsTestIdealJustBelow (F : Field) (f : Polynomial) (t : Fraction) (T : List Polynomial) : Type 0 where
   pub near : Fraction
   pub is_below : compare near t ≡ Less
-  pub test_ideal : (s : Fraction) → near.numerator * s.denominator ≤ s.numerator * near.denominator → compare s t ≡ Less → IsTestIdeal F f s T
+  pub test_ideal : (s : Fraction) → IsAtMost near s → compare s t ≡ Less → IsTestIdeal F f s T
 
 -- The left limit at t is what the test ideals below t and near to it are.
 abbrev pub LeftLimitsAreLimits : Type 0

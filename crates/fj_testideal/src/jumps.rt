@@ -1,7 +1,7 @@
 //! Theorems on F-jumping numbers and on intervals on which the test ideal is constant, over the definitions alone. A function
 //! of this module does nothing: its clause is the theorem, and the check proves it.
 
-ghost use Rattle.fj_testideal.specs.JumpLaws.{ConstancyByEnds, JumpsAreDifferences, OneIsJump, OpenGapsHoldChanges};
+ghost use Rattle.fj_testideal.specs.JumpLaws.{ConstancyByEnds, ConstancyGoesInside, JumpsAreDifferences, OneIsJump, OpenGapsHoldChanges};
 
 /// A number is an F-jumping number exactly where test ideal and left limit differ.
 pub fn jumps_are_differences()
@@ -21,4 +21,9 @@ pub fn constancy_by_ends()
 /// Where the test ideal isn't constant on [s, t), it changes at some m/p^e in it.
 pub fn open_gaps_hold_changes()
     ensures { OpenGapsHoldChanges }
+{}
+
+/// An interval on which the test ideal is constant has one test ideal and one left limit inside, and no F-jumping number.
+pub fn constancy_goes_inside()
+    ensures { ConstancyGoesInside }
 {}
