@@ -5,17 +5,15 @@ use Rattle.fj_coeff.specs.Field.{Field, IsField}
 use Rattle.fj_theory.specs.Exponents.{origin}
 use Rattle.fj_theory.specs.Polynomial.{Polynomial, IsPolynomial, term, degree}
 use Rattle.fj_theory.specs.Ideal.{ArePolynomials}
-use Rattle.fj_theory.specs.Root.{IsRoot}
 use Rattle.fj_theory.specs.Steps.{StepsTo}
 use Rattle.fj_theory.specs.Digits.{value_of, repeated}
 use Rattle.fj_theory.proofs.Period.{repeated_last}
-use Rattle.fj_theory.proofs.IdealBridge.{ArePolynomials-single, IsPolynomial-one}
 use Rattle.fj_theory.proofs.Ideal.{Equal-sym}
 use Rattle.fj_testideal.specs.Chain.{FollowsDigits, IsChain}
 use Rattle.fj_testideal.specs.BoundedIdeal.{occurs_in, IsBoundedIdeal}
 use Rattle.fj_testideal.specs.LeadLaws.{chain_at, PeriodsMoveLeads, RepeatsFrom}
-use Rattle.fj_testideal.proofs.Chain.{power_of_power, value_of_below, IsAfter-start, multiples-self, multiples-unit}
-use Rattle.fj_testideal.proofs.ChainLimit.{chain_rises, chain_falls}
+use Rattle.fj_testideal.proofs.Chain.{power_of_power, value_of_below}
+use Rattle.fj_testideal.proofs.ChainLimit.{chain_root_from_f, chain_root_from_one, chain_rises, chain_falls}
 use Rattle.fj_testideal.proofs.BoundedParts.{root_bounded}
 use Rattle.fj_testideal.proofs.BoundedChain.{strict_step, rising_repeats, falling_repeats}
 
@@ -47,12 +45,6 @@ module _ {S : Type 0} (Step : S → S → Type 0) where
 
 module _ {F : Field} (L : IsField F) {f : Polynomial} (A : IsPolynomial F f) {d : ℕ} (of_degree : degree f ≡ Some d)
     (period : List ℕ) (below : All (λ a. a < F.characteristic) period) where
-  own : ArePolynomials F (f ∷ [])
-  own = ArePolynomials-single A
-
-  unit : ArePolynomials F (term 1 origin ∷ [])
-  unit = ArePolynomials-single (IsPolynomial-one L)
-
   -- What k periods write is below p^(k b).
   written_below : (k : ℕ) → repeated (F.characteristic ^ length period) (value_of F.characteristic period) k < F.characteristic ^ (k * length period)
   written_below k =
@@ -60,62 +52,57 @@ module _ {F : Field} (L : IsField F) {f : Polynomial} (A : IsPolynomial F f) {d 
       (repeated_below (F.characteristic ^ length period) (value_of F.characteristic period) k (value_of_below F.characteristic period below))
 
   module _ (lists : List (List Polynomial)) {last : List Polynomial} where
-    bounded_from_self : IsChain F f period (f ∷ []) lists last → IsBoundedIdeal F (occurs_in f) d last
-    bounded_from_self chain =
-        let k = length lists in
-        let m = repeated (F.characteristic ^ length period) (value_of F.characteristic period) k in
-        let root = subst (λ M. IsRoot F (F.characteristic ^ (k * length period)) M last) (multiples-self L A m) (IsAfter-start L A period own lists chain) in
-        root_bounded L (k * length period) (m + 1) d A of_degree (omega (arith, written_below k)) root
+    -- Each ideal of the chains is generated in degree at most deg f in the variables of f.
+    pub bounded_from_f : IsChain F f period (f ∷ []) lists last → IsBoundedIdeal F (occurs_in f) d last
+    bounded_from_f chain =
+        root_bounded L (length lists * length period) _ d A of_degree (omega (arith, written_below (length lists))) (chain_root_from_f L A period lists chain)
 
-    bounded_from_unit : IsChain F f period (term 1 origin ∷ []) lists last → IsBoundedIdeal F (occurs_in f) d last
-    bounded_from_unit chain =
-        let k = length lists in
-        let m = repeated (F.characteristic ^ length period) (value_of F.characteristic period) k in
-        let root = subst (λ M. IsRoot F (F.characteristic ^ (k * length period)) M last) (multiples-unit L A m) (IsAfter-start L A period unit lists chain) in
-        root_bounded L (k * length period) m d A of_degree (omega (arith, written_below k)) root
+    pub bounded_from_one : IsChain F f period (term 1 origin ∷ []) lists last → IsBoundedIdeal F (occurs_in f) d last
+    bounded_from_one chain =
+        root_bounded L (length lists * length period) _ d A of_degree (omega (arith, written_below (length lists))) (chain_root_from_one L A period lists chain)
 
-    polynomials_from_self : IsChain F f period (f ∷ []) lists last → ArePolynomials F last
-    polynomials_from_self chain = (IsAfter-start L A period own lists chain).polynomials
+    polynomials_from_f : IsChain F f period (f ∷ []) lists last → ArePolynomials F last
+    polynomials_from_f chain = (chain_root_from_f L A period lists chain).polynomials
 
-    polynomials_from_unit : IsChain F f period (term 1 origin ∷ []) lists last → ArePolynomials F last
-    polynomials_from_unit chain = (IsAfter-start L A period unit lists chain).polynomials
+    polynomials_from_one : IsChain F f period (term 1 origin ∷ []) lists last → ArePolynomials F last
+    polynomials_from_one chain = (chain_root_from_one L A period lists chain).polynomials
 
   pub period_moves_leads : PeriodsMoveLeads F f d period
   period_moves_leads = record {
-    from_polynomial = λ lists last next chain follows leads more few many.
+    from_f = λ lists last next chain follows leads more few many.
         let further = run_push (FollowsDigits F f period) lists _ last next chain follows in
-        strict_step L (polynomials_from_self lists chain) (polynomials_from_self (lists ++ next ∷ []) further)
-        (bounded_from_self lists chain) (bounded_from_self (lists ++ next ∷ []) further) (chain_rises L A period lists below chain follows) few many;
+        strict_step L (polynomials_from_f lists chain) (polynomials_from_f (lists ++ next ∷ []) further)
+        (bounded_from_f lists chain) (bounded_from_f (lists ++ next ∷ []) further) (chain_rises L A period lists below chain follows) few many;
     from_one = λ lists last next chain follows leads fewer many few.
         let further = run_push (FollowsDigits F f period) lists _ last next chain follows in
-        elim (strict_step L (polynomials_from_unit (lists ++ next ∷ []) further) (polynomials_from_unit lists chain)
-        (bounded_from_unit (lists ++ next ∷ []) further) (bounded_from_unit lists chain) (chain_falls L A period lists chain follows) few many) [
+        elim (strict_step L (polynomials_from_one (lists ++ next ∷ []) further) (polynomials_from_one lists chain)
+        (bounded_from_one (lists ++ next ∷ []) further) (bounded_from_one lists chain) (chain_falls L A period lists chain follows) few many) [
           | inl same ↦ inl (Equal-sym same)
           | inr less ↦ inr less
         ];
   }
 
-  pub repeats_from_self : RepeatsFrom F f d period (f ∷ [])
-  repeats_from_self = record {
+  pub repeats_from_f : RepeatsFrom F f d period (f ∷ [])
+  repeats_from_f = record {
     repeats = λ lists last chain leads are long.
         let up_to : (i : ℕ) → i ≤ length lists → IsChain F f period (f ∷ []) (take i lists) (chain_at (f ∷ []) lists i) = run_up_to (FollowsDigits F f period) lists (f ∷ []) last (f ∷ []) chain in
         rising_repeats L {vars = occurs_in f} {bound = d} {chain = chain_at (f ∷ []) lists} (length lists) (record {
           leads = leads;
-          polynomials = λ i h. polynomials_from_self (take i lists) (up_to i h);
-          bounded = λ i h. bounded_from_self (take i lists) (up_to i h);
+          polynomials = λ i h. polynomials_from_f (take i lists) (up_to i h);
+          bounded = λ i h. bounded_from_f (take i lists) (up_to i h);
           are_leads = are;
         }) (λ i h. chain_rises L A period (take i lists) below (up_to i (omega arith)) (step_at (FollowsDigits F f period) lists (f ∷ []) last (f ∷ []) chain i h)) long;
   }
 
-  pub repeats_from_unit : RepeatsFrom F f d period (term 1 origin ∷ [])
-  repeats_from_unit = record {
+  pub repeats_from_one : RepeatsFrom F f d period (term 1 origin ∷ [])
+  repeats_from_one = record {
     repeats = λ lists last chain leads are long.
         let first : List Polynomial = term 1 origin ∷ [] in
         let up_to : (i : ℕ) → i ≤ length lists → IsChain F f period first (take i lists) (chain_at first lists i) = run_up_to (FollowsDigits F f period) lists first last first chain in
         falling_repeats L {vars = occurs_in f} {bound = d} {chain = chain_at first lists} (length lists) (record {
           leads = leads;
-          polynomials = λ i h. polynomials_from_unit (take i lists) (up_to i h);
-          bounded = λ i h. bounded_from_unit (take i lists) (up_to i h);
+          polynomials = λ i h. polynomials_from_one (take i lists) (up_to i h);
+          bounded = λ i h. bounded_from_one (take i lists) (up_to i h);
           are_leads = are;
         }) (λ i h. chain_falls L A period (take i lists) (up_to i (omega arith)) (step_at (FollowsDigits F f period) lists first last first chain i h)) long;
   }

@@ -1,31 +1,23 @@
 -- A list of jumps without open gaps has all F-jumping numbers of (0, 1].
-use Rattle.std.proofs.Common.{◌≡◌, ◌↔◌, ◌⊎◌, inl, inr, ⊎_elim, ℕ, ◌-◌, ◌*◌, ◌^◌, ◌<◌, ◌≤◌, List, [], Any, ap, arith, eq-zero-or-pos}
+use Rattle.std.proofs.Common.{◌≡◌, ◌↔◌, ◌⊎◌, inl, inr, ⊎_elim, ℕ, ◌*◌, ◌<◌, ◌≤◌, List, [], Any, ap, arith, eq-zero-or-pos}
 use Rattle.std.specs.declared.cmp.Ordering.TheVariants.{Less}
-use Rattle.std.proofs.Math.Nat.{mul-le-mul_right, mul-lt-mul_of_pos_right, lt_of_mul-lt-mul_right}
+use Rattle.std.proofs.Math.Nat.{mul-lt-mul_of_pos_right, lt_of_mul-lt-mul_right}
 use Rattle.std.proofs.lemmas.List.Elements.{All-contains}
 use Rattle.fj_coeff.specs.Field.{Field, IsField}
 use Rattle.fj_algebra.proofs.Lists.{Any-element}
 use Rattle.fj_algebra.proofs.Pairs.{contains_nil}
 use Rattle.fj_theory.specs.Polynomial.{Polynomial, IsPolynomial}
-use Rattle.fj_theory.specs.Fraction.{Fraction, SameValue, IsInUnitInterval, compare, ceil_times}
-use Rattle.fj_theory.specs.Digits.{truncation}
+use Rattle.fj_theory.specs.Fraction.{Fraction, SameValue, IsInUnitInterval, compare}
 use Rattle.fj_theory.specs.Candidates.{IsCandidate, Gap, IsInside, gaps}
-use Rattle.fj_theory.proofs.Fraction.{SameValue-sym, ceil_times-IsCeiling, ceil_times-le, less_from_compare, compare-less}
-use Rattle.fj_theory.proofs.Digits.{truncation-IsTruncation, product_positive}
+use Rattle.fj_theory.proofs.Fraction.{SameValue-sym, compare-IsTotalOrder, less_from_compare, compare-less}
+use Rattle.fj_theory.proofs.Digits.{product_positive}
 use Rattle.fj_theory.proofs.Candidates.{IsCandidate-SameValue}
 use Rattle.fj_theory.proofs.Gaps.{candidate_or_inside}
 use Rattle.fj_theory.proofs.Field.{characteristic_large}
-use Rattle.fj_testideal.specs.TestIdeal.{IsTestIdeal}
-use Rattle.fj_testideal.specs.Jump.{IsJump, IsBetween, IsConstant}
+use Rattle.fj_testideal.specs.Jump.{IsJump}
 use Rattle.fj_testideal.specs.JumpList.{Jump, IsListedJump, AreJumps, AreOpenGaps, IsComplete}
-use Rattle.fj_testideal.proofs.Ceiling.{power_large, ceiling_below}
-use Rattle.fj_testideal.proofs.TestIdeal.{IsTestIdeal-unique, IsTestIdeal-SameValue, IsTestIdeal-Equal}
-
--- What lies above another fraction is above zero.
-above_zero : (s t : Fraction) → compare s t ≡ Less → 0 < t.numerator
-above_zero s t less = ⊎_elim
-    (λ none. let product : t.numerator * s.denominator ≡ 0 * s.denominator = ap (λ n. n * s.denominator) none in absurd (omega (arith, less_from_compare s t less)))
-    (λ some. some) (eq-zero-or-pos t.numerator)
+use Rattle.fj_testideal.proofs.ConstantInside.{no_jump-inside_constant}
+use Rattle.fj_testideal.proofs.TestIdeal.{IsTestIdeal-SameValue}
 
 pub above_zero_same : (t u : Fraction) → SameValue t u → 0 < t.numerator → 0 < u.numerator
 above_zero_same t u same above = ⊎_elim
@@ -42,30 +34,6 @@ less_same s t u same less =
     compare-less s t (lt_of_mul-lt-mul_right u.denominator moved)
 
 module _ {F : Field} (L : IsField F) {f : Polynomial} (A : IsPolynomial F f) where
-  module _ (s t u : Fraction) (above : compare s t ≡ Less) (below : compare t u ≡ Less) where
-    -- ceil(t*q)/q is in [s, u) for every large q.
-    ceiling-IsBetween : (e : ℕ) → t.denominator * u.denominator ≤ e → IsBetween s u (ceil_times t (F.characteristic ^ e)) (F.characteristic ^ e)
-    unfolding truncation
-    ceiling-IsBetween e large =
-        let q : ℕ = F.characteristic ^ e in
-        let low : ceil_times s q ≤ ceil_times t q = ceil_times-le s t q (omega (arith, less_from_compare s t above)) in
-        let low_product : ceil_times s q * s.denominator ≤ ceil_times t q * s.denominator = mul-le-mul_right s.denominator low in
-        let high : ceil_times t q ≤ ceil_times u q - 1 = ceiling_below t u q below (omega (arith, power_large F.characteristic e (characteristic_large L), large)) in
-        let high_product : ceil_times t q * u.denominator ≤ (ceil_times u q - 1) * u.denominator = mul-le-mul_right u.denominator high in
-        record {
-          from = omega (arith, (ceil_times-IsCeiling s q).enough, low_product);
-          below = omega (arith, (truncation-IsTruncation F.characteristic u e (omega (arith, characteristic_large L)) (above_zero t u below)).below, high_product);
-        }
-
-    -- Where tau is constant on [s, u), the test ideal at t inside is that at s.
-    pub IsTestIdeal-inside : (C : IsConstant F f s u) → IsTestIdeal F f t C.ideal
-    IsTestIdeal-inside C = record { start = t.denominator * u.denominator; root = λ e h. C.between e _ (ceiling-IsBetween e h) }
-
-    pub no_jump_inside : IsConstant F f s u → IsJump F f t → ⊥
-    no_jump_inside C jump =
-        let polynomials = (jump.is_test_ideal.root jump.is_test_ideal.start (omega arith)).polynomials in
-        jump.is_new s above (IsTestIdeal-Equal L A s C.at_start polynomials (IsTestIdeal-unique (IsTestIdeal-inside C) jump.is_test_ideal))
-
   -- Being a jumping number depends on the value alone.
   pub IsJump-SameValue : (t u : Fraction) → SameValue t u → IsJump F f t → IsJump F f u
   IsJump-SameValue t u same jump = record {
@@ -87,7 +55,8 @@ module _ {F : Field} (L : IsField F) {f : Polynomial} (A : IsPolynomial F f) whe
           inl (are.complete t (IsCandidate-SameValue F.characteristic E found.0 t (SameValue-sym t found.0 found.2) candidate) jump)
       go (inr inside) =
           let found = Any-element (IsInside t) (gaps gaps_are.candidates) inside in
-          let opened = gaps_are.complete found.0 found.1 (λ C. no_jump_inside found.0.lower t found.0.upper found.2.above found.2.below C jump) in
+          let rising = compare-IsTotalOrder.trans found.0.lower t found.0.upper found.2.above found.2.below in
+          let opened = gaps_are.complete found.0 found.1 (λ C. no_jump-inside_constant L A found.0.lower found.0.upper rising C t found.2.above found.2.below jump) in
           inr (opened.0, found.0, opened.1, opened.2, found.2)
 
   pub complete_list : (E : ℕ) → 1 ≤ E → {jumps : List Jump} → AreJumps F f E jumps → IsComplete F f E → (t : Fraction) → IsInUnitInterval t

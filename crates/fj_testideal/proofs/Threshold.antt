@@ -17,6 +17,7 @@ use Rattle.fj_theory.proofs.Ideal.{Inside-single, Inside-head, Inside-trans}
 use Rattle.fj_theory.proofs.Root.{Inside-IsRoot}
 use Rattle.fj_theory.proofs.FrobeniusPower.{Member-frobenius_power}
 use Rattle.fj_testideal.specs.TestIdeal.{IsTestIdeal, IsLeftLimit}
+use Rattle.fj_testideal.specs.TestIdealLaws.{IsAtMost}
 use Rattle.fj_testideal.specs.Threshold.{IsProper, IsPowerInside, IsNu, IsThreshold}
 use Rattle.fj_testideal.specs.ThresholdLaws.{NuIsOne, ThresholdIsOne}
 use Rattle.fj_testideal.proofs.Ceiling.{power_large, ceiling_positive, ceiling_below, ceiling_rises, truncation_rises}
@@ -126,7 +127,7 @@ module _ {F : Field} (L : IsField F) {f : Polynomial} (A : IsPolynomial F f) {J 
   }
 
   -- Where f^(ceil(t*p^e) - 1) is inside at some e, f^ceil(s*p^d) is inside at each d, for s at least t.
-  pub ceiling_inside_above : (s t : Fraction) → 0 < t.numerator → t.numerator * s.denominator ≤ s.numerator * t.denominator
+  pub ceiling_inside_above : (s t : Fraction) → 0 < t.numerator → IsAtMost t s
       → (e : ℕ) → IsPowerInside F f J e (ceil_times t (F.characteristic ^ e) - 1) → (d : ℕ) → IsPowerInside F f J d (ceil_times s (F.characteristic ^ d))
   ceiling_inside_above s t above at_most e inside d =
       let large = truncation_inside-across t above e d inside in
@@ -161,7 +162,7 @@ module _ {F : Field} (L : IsField F) {f : Polynomial} (A : IsPolynomial F f) {J 
 
   -- It is the least number whose test ideal is inside (J).
   threshold_least : (t : Fraction) → IsThreshold F f J t → (s : Fraction) (S : List Polynomial) → IsTestIdeal F f s S
-      → Inside F S J ↔ (t.numerator * s.denominator ≤ s.numerator * t.denominator)
+      → Inside F S J ↔ IsAtMost t s
   threshold_least t h s S I = (
     λ i. elim (cases_lt (s.numerator * t.denominator) (t.numerator * s.denominator)) [
       | inl less ↦

@@ -10,7 +10,7 @@ use Rattle.fj_theory.specs.Polynomial.{Polynomial, IsPolynomial}
 use Rattle.fj_theory.specs.Ideal.{ArePolynomials, Member, Inside}
 use Rattle.fj_theory.specs.Fraction.{Fraction, SameValue, compare, ceil_times}
 use Rattle.fj_theory.specs.Candidates.{IsCandidate, AreCandidates, Gap, neighbours, gaps}
-use Rattle.fj_theory.proofs.Fraction.{ceil_times-le, ceil_times-whole, less_from_compare}
+use Rattle.fj_theory.proofs.Fraction.{ceil_times-le, ceil_times-whole}
 use Rattle.fj_theory.proofs.Candidates.{IsCandidate-one, IsInUnitInterval-from_candidate}
 use Rattle.fj_theory.proofs.Field.{characteristic_large}
 use Rattle.fj_theory.proofs.Ideal.{Inside-head}
@@ -18,15 +18,10 @@ use Rattle.fj_theory.proofs.FrobeniusPower.{Member-frobenius_power}
 use Rattle.fj_testideal.proofs.TestIdeal.{test_ideal-zero}
 use Rattle.fj_testideal.specs.TestIdeal.{IsTestIdeal, IsLeftLimit}
 use Rattle.fj_testideal.specs.Threshold.{IsProper, IsPowerInside, IsThreshold, HasThresholdInside}
+use Rattle.fj_testideal.specs.TestIdealLaws.{IsAtMost}
 use Rattle.fj_testideal.specs.ThresholdLaws.{IsDecidedAt, HasOneGap}
+use Rattle.fj_testideal.proofs.ConstantInside.{at_most_from_less}
 use Rattle.fj_testideal.proofs.Threshold.{power_inside_by_root, power_inside-more, test_ideal_inside, left_limit_inside, threshold_by_limits, ceiling_inside_above, threshold_is_one}
-
--- s is at most t by value
-abbrev AtMost : Fraction → Fraction → Type 0
-AtMost s t = s.numerator * t.denominator ≤ t.numerator * s.denominator
-
-AtMost-from_less : (s t : Fraction) → compare s t ≡ Less → AtMost s t
-AtMost-from_less s t less = omega (arith, less_from_compare s t less)
 
 -- The ends of a gap among the members of the list.
 lower_end : (s : Fraction) (ts : List Fraction) (gap : Gap) → Contains (neighbours s ts) gap → (s ≡ gap.lower) ⊎ Contains ts gap.lower
@@ -47,10 +42,10 @@ upper_end s (t ∷ ts) gap c = elim (contains_cons (record { lower = s; upper = 
 
 -- The first member of a rising list is at most each gap after it, and each later member.
 module _ (t : Fraction) (ts : List Fraction) (rising : IsStrictlySortedBy compare (t ∷ ts)) where
-  first_least : (v : Fraction) → (t ≡ v) ⊎ Contains ts v → AtMost t v
+  first_least : (v : Fraction) → (t ≡ v) ⊎ Contains ts v → IsAtMost t v
   unfolding IsStrictlySortedBy
-  first_least v (inl e) = subst (AtMost t) e (omega arith)
-  first_least v (inr c) = AtMost-from_less t v (All-contains (λ u. compare t u ≡ Less) ts v (All-from_recursion (λ u. compare t u ≡ Less) ts rising.0) c)
+  first_least v (inl e) = subst (IsAtMost t) e (omega arith)
+  first_least v (inr c) = at_most_from_less t v (All-contains (λ u. compare t u ≡ Less) ts v (All-from_recursion (λ u. compare t u ≡ Less) ts rising.0) c)
 
   rest_rises : IsStrictlySortedBy compare ts
   unfolding IsStrictlySortedBy
@@ -58,36 +53,36 @@ module _ (t : Fraction) (ts : List Fraction) (rising : IsStrictlySortedBy compar
 
 -- A member of the list is at most the lower end of a gap, or at least the upper end.
 outside_gap : (s : Fraction) (ts : List Fraction) → IsStrictlySortedBy compare ts → (gap : Gap) → Contains (neighbours s ts) gap → (v : Fraction) → Contains ts v
-    → AtMost v gap.lower ⊎ AtMost gap.upper v
+    → IsAtMost v gap.lower ⊎ IsAtMost gap.upper v
 unfolding neighbours
 outside_gap s [] rising gap c v d = absurd (contains_nil v d)
 outside_gap s (t ∷ ts) rising gap c v d = go (contains_cons (record { lower = s; upper = t }) (neighbours t ts) gap c) (contains_cons t ts v d)
     (λ k. outside_gap t ts (rest_rises t ts rising) gap k v)
   where
     go : (record { lower = s; upper = t } ≡ gap) ⊎ Contains (neighbours t ts) gap → (t ≡ v) ⊎ Contains ts v
-        → (Contains (neighbours t ts) gap → Contains ts v → AtMost v gap.lower ⊎ AtMost gap.upper v) → AtMost v gap.lower ⊎ AtMost gap.upper v
-    go (inl e) h later = inr (subst (λ u. AtMost u v) (ap (λ g. g.upper) e) (first_least t ts rising v h))
-    go (inr k) (inl e) later = inl (subst (λ u. AtMost u gap.lower) e (first_least t ts rising gap.lower (lower_end t ts gap k)))
+        → (Contains (neighbours t ts) gap → Contains ts v → IsAtMost v gap.lower ⊎ IsAtMost gap.upper v) → IsAtMost v gap.lower ⊎ IsAtMost gap.upper v
+    go (inl e) h later = inr (subst (λ u. IsAtMost u v) (ap (λ g. g.upper) e) (first_least t ts rising v h))
+    go (inr k) (inl e) later = inl (subst (λ u. IsAtMost u gap.lower) e (first_least t ts rising gap.lower (lower_end t ts gap k)))
     go (inr k) (inr h) later = later k h
 
 -- Of two gaps one lies before the other, or they are one.
 gaps_apart : (s : Fraction) (ts : List Fraction) → IsStrictlySortedBy compare ts → (g h : Gap) → Contains (neighbours s ts) g → Contains (neighbours s ts) h
-    → (g ≡ h) ⊎ (AtMost g.upper h.lower ⊎ AtMost h.upper g.lower)
+    → (g ≡ h) ⊎ (IsAtMost g.upper h.lower ⊎ IsAtMost h.upper g.lower)
 unfolding neighbours
 gaps_apart s [] rising g h c d = absurd (contains_nil g c)
 gaps_apart s (t ∷ ts) rising g h c d =
     go (contains_cons (record { lower = s; upper = t }) (neighbours t ts) g c) (contains_cons (record { lower = s; upper = t }) (neighbours t ts) h d)
     (gaps_apart t ts (rest_rises t ts rising) g h)
   where
-    after : (g : Gap) → Contains (neighbours t ts) g → AtMost t g.lower
+    after : (g : Gap) → Contains (neighbours t ts) g → IsAtMost t g.lower
     after g k = first_least t ts rising g.lower (lower_end t ts g k)
 
     go : (record { lower = s; upper = t } ≡ g) ⊎ Contains (neighbours t ts) g → (record { lower = s; upper = t } ≡ h) ⊎ Contains (neighbours t ts) h
-        → (Contains (neighbours t ts) g → Contains (neighbours t ts) h → (g ≡ h) ⊎ (AtMost g.upper h.lower ⊎ AtMost h.upper g.lower))
-        → (g ≡ h) ⊎ (AtMost g.upper h.lower ⊎ AtMost h.upper g.lower)
+        → (Contains (neighbours t ts) g → Contains (neighbours t ts) h → (g ≡ h) ⊎ (IsAtMost g.upper h.lower ⊎ IsAtMost h.upper g.lower))
+        → (g ≡ h) ⊎ (IsAtMost g.upper h.lower ⊎ IsAtMost h.upper g.lower)
     go (inl e) (inl f) later = inl (sym e ∙ f)
-    go (inl e) (inr k) later = inr (inl (subst (λ u. AtMost u h.lower) (ap (λ g. g.upper) e) (after h k)))
-    go (inr k) (inl f) later = inr (inr (subst (λ u. AtMost u g.lower) (ap (λ g. g.upper) f) (after g k)))
+    go (inl e) (inr k) later = inr (inl (subst (λ u. IsAtMost u h.lower) (ap (λ g. g.upper) e) (after h k)))
+    go (inr k) (inl f) later = inr (inr (subst (λ u. IsAtMost u g.lower) (ap (λ g. g.upper) f) (after g k)))
     go (inr k) (inr m) later = later k m
 
 module _ {F : Field} (L : IsField F) {f : Polynomial} (A : IsPolynomial F f) {J : List Polynomial} (P : ArePolynomials F J) where
@@ -122,10 +117,10 @@ module _ {F : Field} (L : IsField F) {f : Polynomial} (A : IsPolynomial F f) {J 
               let k = (threshold_is_one L A P).same u v found.2 h in
               at_member v k (in_gaps v found.1)
             where
-              in_gaps : (v : Fraction) → Contains ts v → AtMost v gap.lower ⊎ AtMost gap.upper v
+              in_gaps : (v : Fraction) → Contains ts v → IsAtMost v gap.lower ⊎ IsAtMost gap.upper v
               in_gaps v c = outside_gap _ ts C.rising gap among v c
 
-              at_member : (v : Fraction) → IsThreshold F f J v → AtMost v gap.lower ⊎ AtMost gap.upper v → ⊥
+              at_member : (v : Fraction) → IsThreshold F f J v → IsAtMost v gap.lower ⊎ IsAtMost gap.upper v → ⊥
               at_member v k (inl under) = low.1 (power_inside-more L A P low.0 (ceil_times-le v gap.lower (F.characteristic ^ low.0) under) (k.inside low.0))
               at_member v k (inr over) =
                   let more = ceil_times-le gap.upper v (F.characteristic ^ high.0) over in
@@ -139,7 +134,7 @@ module _ {F : Field} (L : IsField F) {f : Polynomial} (A : IsPolynomial F f) {J 
       )
 
     -- No gap before another one with the threshold inside has it inside too.
-    not_both : (g h : Gap) → Contains (gaps ts) g → AtMost g.upper h.lower → HasThresholdInside F f J E g → HasThresholdInside F f J E h → ⊥
+    not_both : (g h : Gap) → Contains (gaps ts) g → IsAtMost g.upper h.lower → HasThresholdInside F f J E g → HasThresholdInside F f J E h → ⊥
     not_both g h c before G H = H.outside (ceiling_inside_above L A P h.lower g.upper (upper_positive g c) before G.high G.inside H.low)
 
     only_gap : (g h : Gap) → Contains (gaps ts) g → Contains (gaps ts) h → HasThresholdInside F f J E g → HasThresholdInside F f J E h → g ≡ h

@@ -99,7 +99,7 @@ chain_at first lists i = slice_index_or (first ∷ lists) i first
 -- For digits below p: a further period of the chain from (f) gives the same ideal or one with more leads, and of the chain
 -- from (1) the same or one with fewer. Leads are those of degree at most deg f in the variables of f.
 pub record PeriodsMoveLeads (F : Field) (f : Polynomial) (d : ℕ) (period : List ℕ) : Type 0 where
-  pub from_polynomial : (lists : List (List Polynomial)) (last next : List Polynomial) → IsChain F f period (f ∷ []) lists last → FollowsDigits F f period last next
+  pub from_f : (lists : List (List Polynomial)) (last next : List Polynomial) → IsChain F f period (f ∷ []) lists last → FollowsDigits F f period last next
       → (leads more : List (List ℕ)) → AreLeads F (occurs_in f) d last leads → AreLeads F (occurs_in f) d next more
       → Equal F last next ⊎ (length leads < length more)
   pub from_one : (lists : List (List Polynomial)) (last next : List Polynomial) → IsChain F f period (term 1 origin ∷ []) lists last → FollowsDigits F f period last next

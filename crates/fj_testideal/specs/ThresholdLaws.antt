@@ -1,5 +1,5 @@
 -- Laws of F-thresholds, which the law functions prove (Mustață, Takagi and Watanabe 2005; Blickle, Mustață and Smith 2008).
-use Rattle.std.specs.Prelude.{◌≡◌, ◌↔◌, ◌⊎◌, ℕ, suc, ◌-◌, ◌*◌, ◌^◌, ◌<◌, ◌≤◌, List, [], ◌∷◌, All, Any, Contains}
+use Rattle.std.specs.Prelude.{◌≡◌, ◌↔◌, ◌⊎◌, ℕ, suc, ◌-◌, ◌^◌, ◌<◌, ◌≤◌, List, [], ◌∷◌, All, Any, Contains}
 use Rattle.fj_coeff.specs.Field.{Field, IsField}
 use Rattle.fj_theory.specs.Polynomial.{Polynomial, IsPolynomial, power}
 use Rattle.fj_theory.specs.Ideal.{ArePolynomials, Member, Inside}
@@ -7,6 +7,7 @@ use Rattle.fj_theory.specs.Root.{IsRoot}
 use Rattle.fj_theory.specs.Fraction.{Fraction, SameValue, ceil_times}
 use Rattle.fj_theory.specs.Candidates.{IsCandidate, AreCandidates, Gap, gaps}
 use Rattle.fj_testideal.specs.TestIdeal.{IsTestIdeal, IsLeftLimit}
+use Rattle.fj_testideal.specs.TestIdealLaws.{IsAtMost}
 use Rattle.fj_testideal.specs.Threshold.{IsProper, IsPowerInside, IsNu, IsThreshold, HasThresholdInside}
 
 -- f^m is in (J^[q]) exactly where the root of f^m at e is inside (J).
@@ -32,7 +33,7 @@ pub record ThresholdIsOne (F : Field) (f : Polynomial) (J : List Polynomial) : T
   pub unique : (s t : Fraction) → IsThreshold F f J s → IsThreshold F f J t → SameValue s t
   pub same : (s t : Fraction) → SameValue s t → IsThreshold F f J s → IsThreshold F f J t
   pub least : (t : Fraction) → IsThreshold F f J t → (s : Fraction) (S : List Polynomial) → IsTestIdeal F f s S
-      → Inside F S J ↔ (t.numerator * s.denominator ≤ s.numerator * t.denominator)
+      → Inside F S J ↔ IsAtMost t s
 
 abbrev pub NuAndThresholdAreOne : Type 0
 NuAndThresholdAreOne =
