@@ -1,0 +1,144 @@
+-- Chains of roots, one digit at a time: what they reach, that they rise or fall, and that a repeat is for good.
+use Rattle.std.proofs.Common.{◌≡◌, ℕ, zero, suc, ◌+◌, ◌*◌, ◌^◌, ◌<◌, ◌≤◌, List, [], ◌∷◌, length, All, refl, sym, ap, ap₂, ◌∙◌, subst, arith}
+use Rattle.std.proofs.Math.Nat.{pow-zero, pow-suc, mul-le-mul_left}
+use Rattle.std.proofs.lemmas.Nat.{pow-add}
+use Rattle.std.proofs.lemmas.List.Elements.{All-head, All-tail}
+use Rattle.fj_coeff.specs.Field.{Field, IsField}
+use Rattle.fj_theory.specs.Exponents.{origin}
+use Rattle.fj_theory.specs.Polynomial.{Polynomial, IsPolynomial, power, product, term}
+use Rattle.fj_theory.specs.Ideal.{ArePolynomials, Equal, multiples}
+use Rattle.fj_theory.specs.Root.{IsRoot}
+use Rattle.fj_theory.specs.Digits.{value_of, repeated}
+use Rattle.fj_theory.proofs.Digits.{value_of-cons}
+use Rattle.fj_theory.proofs.IdealBridge.{ArePolynomials-head, ArePolynomials-tail, IsPolynomial-one}
+use Rattle.fj_theory.proofs.Ideal.{ArePolynomials-multiples, Equal-sym, Equal-trans, Equal-refl, Equal-multiples}
+use Rattle.fj_theory.proofs.PolynomialRing.{IsPolynomial-power, product_comm, product_one, power_zero, power_first, power_add}
+use Rattle.fj_theory.proofs.Root.{IsRoot-1, IsRoot-unique, IsRoot-Equal, IsRoot-Equal_root}
+use Rattle.fj_theory.proofs.RootParts.{IsRoot-digit}
+use Rattle.fj_testideal.specs.Chain.{FollowsDigits, IsChain, IsLimit}
+
+-- N is the root of f^m S at e.
+abbrev pub IsMultipleRoot : Field → Polynomial → List Polynomial → ℕ → ℕ → List Polynomial → Type 0
+IsMultipleRoot F f S e m N = IsRoot F (F.characteristic ^ e) (multiples F (power F f m) S) N
+
+-- A power of p^b.
+pub power_of_power : (p b k : ℕ) → (p ^ b) ^ k ≡ p ^ (k * b)
+power_of_power p b zero = let none : 0 * b ≡ 0 = omega arith in pow-zero (p ^ b) ∙ sym (ap (λ n. p ^ n) none ∙ pow-zero p)
+power_of_power p b (suc k) =
+    let place : k * b + b ≡ suc k * b = omega arith in
+    pow-suc (p ^ b) k ∙ ap (λ n. n * p ^ b) (power_of_power p b k) ∙ sym (pow-add p (k * b) b) ∙ ap (λ n. p ^ n) place
+
+-- What b digits write is below p^b.
+pub value_of_below : (p : ℕ) (ds : List ℕ) → All (λ d. d < p) ds → value_of p ds < p ^ length ds
+unfolding value_of
+value_of_below p [] below = let one : p ^ 0 ≡ 1 = pow-zero p in omega arith
+value_of_below p (d ∷ ds) below =
+    let first : d < p = All-head (λ d. d < p) d ds below in
+    let rest = value_of_below p ds (All-tail (λ d. d < p) d ds below) in
+    let product : p ^ length ds * (d + 1) ≤ p ^ length ds * p = mul-le-mul_left (p ^ length ds) (omega arith) in
+    omega (arith, value_of-cons p d ds, pow-suc p (length ds))
+
+module _ {F : Field} (L : IsField F) {f : Polynomial} (A : IsPolynomial F f) where
+  multiples-one : (S : List Polynomial) → ArePolynomials F S → multiples F (term 1 origin) S ≡ S
+  multiples-one [] P = refl
+  multiples-one (g ∷ S) P =
+      let G = ArePolynomials-head P in
+      ap₂ ◌∷◌ (product_comm L (IsPolynomial-one L) G ∙ product_one L G) (multiples-one S (ArePolynomials-tail P))
+
+  -- The root at 0 of f^0 S is (S).
+  IsMultipleRoot-zero : {S : List Polynomial} → ArePolynomials F S → IsMultipleRoot F f S 0 0 S
+  IsMultipleRoot-zero {S} P =
+      subst (λ q. IsRoot F q (multiples F (power F f 0) S) S) (sym (pow-zero F.characteristic))
+      (subst (λ M. IsRoot F 1 M S) (sym (ap (λ g. multiples F g S) (power_zero L A) ∙ multiples-one S P)) (IsRoot-1 L P))
+
+  -- The steps for the digits of a number a reach the root of f^a J.
+  pub FollowsDigits-root : (ds : List ℕ) {J N : List Polynomial} → ArePolynomials F J → FollowsDigits F f ds J N
+      → IsMultipleRoot F f J (length ds) (value_of F.characteristic ds) N
+  unfolding value_of
+  FollowsDigits-root [] {J} P same = subst (IsMultipleRoot F f J 0 0) same (IsMultipleRoot-zero P)
+  FollowsDigits-root (d ∷ ds) {J} {N} P follows =
+      let p = F.characteristic in
+      let n = length ds in
+      let whole : d * p ^ n + value_of p ds ≡ value_of p (d ∷ ds) = omega (arith, value_of-cons p d ds) in
+      let place : 1 + n ≡ suc n = omega arith in
+      subst (λ e. IsMultipleRoot F f J e (value_of p (d ∷ ds)) N) place
+      (subst (λ m. IsMultipleRoot F f J (1 + n) m N) whole (IsRoot-digit L 1 n A (value_of p ds) d P (FollowsDigits-root ds P follows.1) follows.2))
+
+  pub ArePolynomials-FollowsDigits : (ds : List ℕ) {J N : List Polynomial} → ArePolynomials F J → FollowsDigits F f ds J N → ArePolynomials F N
+  ArePolynomials-FollowsDigits ds P follows = (FollowsDigits-root ds P follows).polynomials
+
+  -- Steps with the same digits lead from equal ideals to equal ideals.
+  pub FollowsDigits-Equal : (ds : List ℕ) {J J' N N' : List Polynomial} → ArePolynomials F J → ArePolynomials F J' → Equal F J J'
+      → FollowsDigits F f ds J N → FollowsDigits F f ds J' N' → Equal F N N'
+  FollowsDigits-Equal ds P P' E follows follows' =
+      let B = IsPolynomial-power L A (value_of F.characteristic ds) in
+      IsRoot-unique
+      (IsRoot-Equal L (ArePolynomials-multiples L B P) (ArePolynomials-multiples L B P') (Equal-multiples L B P P' E) (FollowsDigits-root ds P follows))
+      (FollowsDigits-root ds P' follows')
+
+  module _ (ds : List ℕ) where
+    -- A chain is constant from a repeat on.
+    repeats_stay_from : {J next : List Polynomial} → ArePolynomials F J → FollowsDigits F f ds J next → Equal F J next
+        → (lists : List (List Polynomial)) {first last : List Polynomial} → ArePolynomials F first → Equal F J first → IsChain F f ds first lists last → Equal F J last
+    repeats_stay_from {J} P follows E [] Q G chain = subst (Equal F J) chain G
+    repeats_stay_from {J} {next} P follows E (second ∷ lists) Q G chain =
+        let R = ArePolynomials-FollowsDigits ds Q chain.0 in
+        repeats_stay_from P follows E lists R
+        (Equal-trans L P (ArePolynomials-FollowsDigits ds P follows) R E (FollowsDigits-Equal ds P Q G follows chain.0)) chain.1
+
+    pub repeats_stay : {J next : List Polynomial} → ArePolynomials F J → FollowsDigits F f ds J next → Equal F J next
+        → (lists : List (List Polynomial)) {last : List Polynomial} → IsChain F f ds J lists last → Equal F J last
+    repeats_stay P follows E lists chain = repeats_stay_from P follows E lists P (Equal-refl L P) chain
+
+  -- The chain of a period of b digits that write a, from S: after k periods it is at the root of f^(a(1 + .. + p^((k-1)b))) S
+  -- at k b.
+  module _ (ds : List ℕ) {S : List Polynomial} (P : ArePolynomials F S) where
+    -- N is where the chain is after k periods.
+    abbrev pub IsAfter : ℕ → List Polynomial → Type 0
+    IsAfter k N = IsMultipleRoot F f S (k * length ds) (repeated (F.characteristic ^ length ds) (value_of F.characteristic ds) k) N
+
+    pub IsAfter-zero : IsAfter 0 S
+    unfolding repeated
+    IsAfter-zero = let none : 0 * length ds ≡ 0 = omega arith in subst (λ e. IsMultipleRoot F f S e 0 S) (sym none) (IsMultipleRoot-zero P)
+
+    pub IsAfter-next : (k : ℕ) {J N : List Polynomial} → IsAfter k J → FollowsDigits F f ds J N → IsAfter (suc k) N
+    unfolding repeated
+    IsAfter-next k {J} {N} R follows =
+        let p = F.characteristic in
+        let b = length ds in
+        let a = value_of p ds in
+        let place : b + k * b ≡ suc k * b = omega arith in
+        let number : a * p ^ (k * b) + repeated (p ^ b) a k ≡ repeated (p ^ b) a (suc k) = omega (arith, ap (λ n. n * a) (power_of_power p b k)) in
+        subst (λ e. IsMultipleRoot F f S e (repeated (p ^ b) a (suc k)) N) place
+        (subst (λ m. IsMultipleRoot F f S (b + k * b) m N) number
+        (IsRoot-digit L b (k * b) A (repeated (p ^ b) a k) a P R (FollowsDigits-root ds R.polynomials follows)))
+
+    pub IsAfter-chain : (k : ℕ) (lists : List (List Polynomial)) {first last : List Polynomial} → IsAfter k first → IsChain F f ds first lists last → IsAfter (k + length lists) last
+    IsAfter-chain k [] {last = last} R chain = let place : k ≡ k + 0 = omega arith in subst (λ k. IsAfter k last) place (subst (IsAfter k) chain R)
+    IsAfter-chain k (second ∷ lists) {last = last} R chain =
+        let place : suc k + length lists ≡ k + suc (length lists) = omega arith in
+        subst (λ k. IsAfter k last) place (IsAfter-chain (suc k) lists (IsAfter-next k R chain.0) chain.1)
+
+    -- Where the next list is the same ideal, the chain is there after every further period.
+    pub IsAfter-stays : (k i : ℕ) {J N : List Polynomial} → IsAfter k J → FollowsDigits F f ds J N → Equal F J N → IsAfter (i + k) J
+    IsAfter-stays k zero {J} R follows E = let place : k ≡ 0 + k = omega arith in subst (λ k. IsAfter k J) place R
+    IsAfter-stays k (suc i) {J} R follows E =
+        let T = IsAfter-next (i + k) (IsAfter-stays k i R follows E) follows in
+        let p = F.characteristic in
+        let place : suc (i + k) ≡ suc i + k = omega arith in
+        subst (λ k. IsAfter k J) place
+        (IsRoot-Equal_root L (suc (i + k) * length ds) (ArePolynomials-multiples L (IsPolynomial-power L A _) P) T R.polynomials (Equal-sym E))
+
+    pub IsAfter-start : (lists : List (List Polynomial)) {last : List Polynomial} → IsChain F f ds S lists last → IsAfter (length lists) last
+    IsAfter-start lists {last} chain = let place : 0 + length lists ≡ length lists = omega arith in subst (λ k. IsAfter k last) place (IsAfter-chain 0 lists IsAfter-zero chain)
+
+    -- A limit is reached after every large number of periods.
+    pub IsAfter-limit : {J : List Polynomial} (limit : IsLimit F f ds S J) (i : ℕ) → IsAfter (i + length limit.lists) J
+    IsAfter-limit limit i = IsAfter-stays (length limit.lists) i (IsAfter-start limit.lists limit.chain) limit.follows limit.repeats
+
+  -- The lists f^m (f) and f^m (1).
+  pub multiples-self : (m : ℕ) → multiples F (power F f m) (f ∷ []) ≡ power F f (m + 1) ∷ []
+  multiples-self m = ap (λ g. g ∷ []) (ap (product F (power F f m)) (sym (power_first L A)) ∙ sym (power_add L A m 1))
+
+  pub multiples-unit : (m : ℕ) → multiples F (power F f m) (term 1 origin ∷ []) ≡ power F f m ∷ []
+  multiples-unit m = ap (λ g. g ∷ []) (product_one L (IsPolynomial-power L A m))

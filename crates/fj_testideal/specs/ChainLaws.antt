@@ -1,0 +1,69 @@
+-- Laws of chains of roots, which the law functions prove. They say how test ideals and left limits are computed from digits.
+use Rattle.std.specs.Prelude.{◌≡◌, ℕ, ◌+◌, ◌-◌, ◌*◌, ◌^◌, ◌<◌, List, [], ◌∷◌, All, length}
+use Rattle.fj_coeff.specs.Field.{Field, IsField}
+use Rattle.fj_theory.specs.Exponents.{origin}
+use Rattle.fj_theory.specs.Polynomial.{Polynomial, IsPolynomial, power, term}
+use Rattle.fj_theory.specs.Ideal.{ArePolynomials, Inside, Equal, multiples}
+use Rattle.fj_theory.specs.Fraction.{Fraction, IsInUnitInterval}
+use Rattle.fj_theory.specs.Digits.{value_of, repeated, Expansion, IsExpansion}
+use Rattle.fj_theory.specs.Root.{IsRoot}
+use Rattle.fj_testideal.specs.TestIdeal.{IsTestIdeal, IsLeftLimit}
+use Rattle.fj_testideal.specs.Chain.{FollowsDigits, IsChain, IsLimit}
+
+-- The steps for b digits, the last one first, reach the root at b of f^a J, where a is the number that the digits write.
+abbrev pub DigitsReachRoot : Type 0
+DigitsReachRoot =
+    (F : Field) → IsField F → (f : Polynomial) → IsPolynomial F f → (ds : List ℕ) (J N : List Polynomial) → ArePolynomials F J
+    → FollowsDigits F f ds J N → IsRoot F (F.characteristic ^ length ds) (multiples F (power F f (value_of F.characteristic ds)) J) N
+
+-- Where a chain is after k periods of b digits that write a: with A = a (1 + p^b + .. + p^((k-1)b)), the chain from (f) is at
+-- the root of f^(A+1) at k b, and the chain from (1) at that of f^A.
+pub record IsRootAfterPeriods (F : Field) (f : Polynomial) (period : List ℕ) (lists : List (List Polynomial)) (last : List Polynomial) : Type 0 where
+  pub from_f : IsChain F f period (f ∷ []) lists last → IsRoot F (F.characteristic ^ (length lists * length period)) (power F f (repeated (F.characteristic ^ length period) (value_of F.characteristic period) (length lists) + 1) ∷ []) last
+  pub from_one : IsChain F f period (term 1 origin ∷ []) lists last → IsRoot F (F.characteristic ^ (length lists * length period)) (power F f (repeated (F.characteristic ^ length period) (value_of F.characteristic period) (length lists)) ∷ []) last
+
+abbrev pub ChainsAreRoots : Type 0
+ChainsAreRoots =
+    (F : Field) → IsField F → (f : Polynomial) → IsPolynomial F f → (period : List ℕ) (lists : List (List Polynomial)) (last : List Polynomial)
+    → IsRootAfterPeriods F f period lists last
+
+-- The chain of a period from (f) rises, and the one from (1) falls.
+pub record IsMonotone (F : Field) (f : Polynomial) (period : List ℕ) : Type 0 where
+  pub rises : (lists : List (List Polynomial)) (last next : List Polynomial) → IsChain F f period (f ∷ []) lists last → FollowsDigits F f period last next → Inside F last next
+  pub falls : (lists : List (List Polynomial)) (last next : List Polynomial) → IsChain F f period (term 1 origin ∷ []) lists last → FollowsDigits F f period last next → Inside F next last
+
+abbrev pub ChainsAreMonotone : Type 0
+ChainsAreMonotone =
+    (F : Field) → IsField F → (f : Polynomial) → IsPolynomial F f → (period : List ℕ) → All (λ d. d < F.characteristic) period → IsMonotone F f period
+
+-- A chain is constant from its first repeat on: where the list after J is the same ideal, so is every later one.
+abbrev pub RepeatsStay : Type 0
+RepeatsStay =
+    (F : Field) → IsField F → (f : Polynomial) → IsPolynomial F f → (period : List ℕ) (J next : List Polynomial) → ArePolynomials F J
+    → FollowsDigits F f period J next → Equal F J next
+    → (lists : List (List Polynomial)) (last : List Polynomial) → IsChain F f period J lists last → Equal F J last
+
+-- For t in (0, 1] with its digits, c of them before the period, which write N: where J is the limit of the period's chain from
+-- (f), the root at c of f^N J is the test ideal at t; where J is the limit of the chain from (1), it is the left limit. The
+-- digits before the period lead there.
+pub record IsReachedByDigits (F : Field) (f : Polynomial) (t : Fraction) (d : Expansion) : Type 0 where
+  pub root_is_test_ideal : (J T : List Polynomial) → IsLimit F f d.period (f ∷ []) J → IsRoot F (F.characteristic ^ length d.pre) (multiples F (power F f (value_of F.characteristic d.pre)) J) T → IsTestIdeal F f t T
+  pub root_is_left_limit : (J T : List Polynomial) → IsLimit F f d.period (term 1 origin ∷ []) J → IsRoot F (F.characteristic ^ length d.pre) (multiples F (power F f (value_of F.characteristic d.pre)) J) T → IsLeftLimit F f t T
+  pub test_ideal : (J T : List Polynomial) → IsLimit F f d.period (f ∷ []) J → FollowsDigits F f d.pre J T → IsTestIdeal F f t T
+  pub left_limit : (J T : List Polynomial) → IsLimit F f d.period (term 1 origin ∷ []) J → FollowsDigits F f d.pre J T → IsLeftLimit F f t T
+
+abbrev pub DigitsReachLimits : Type 0
+DigitsReachLimits =
+    (F : Field) → IsField F → (f : Polynomial) → IsPolynomial F f → (t : Fraction) → IsInUnitInterval t
+    → (d : Expansion) → IsExpansion F.characteristic t d → IsReachedByDigits F f t d
+
+-- For b digits that write a > 0, and u = a/(p^b - 1): the limit of the chain is the test ideal at u where it starts at (f),
+-- and the left limit where it starts at (1).
+pub record IsReachedByPeriod (F : Field) (f : Polynomial) (period : List ℕ) (u : Fraction) : Type 0 where
+  pub test_ideal : (J : List Polynomial) → IsLimit F f period (f ∷ []) J → IsTestIdeal F f u J
+  pub left_limit : (J : List Polynomial) → IsLimit F f period (term 1 origin ∷ []) J → IsLeftLimit F f u J
+
+abbrev pub PeriodsReachLimits : Type 0
+PeriodsReachLimits =
+    (F : Field) → IsField F → (f : Polynomial) → IsPolynomial F f → (period : List ℕ) → All (λ d. d < F.characteristic) period → 0 < value_of F.characteristic period
+    → (u : Fraction) → u.numerator * (F.characteristic ^ length period - 1) ≡ value_of F.characteristic period * u.denominator → IsReachedByPeriod F f period u

@@ -1,0 +1,15 @@
+pub mod TestIdeal
+pub mod Jump
+pub mod JumpList
+pub mod Threshold
+pub mod Chain
+pub mod BoundedIdeal
+pub mod LeadLaws
+pub mod ChainLaws
+pub mod TestIdealLaws
+pub mod JumpLaws
+pub mod ListLaws
+pub mod ThresholdLaws
+pub mod SearchExamples
+pub mod MonomialLaws
+pub mod Examples

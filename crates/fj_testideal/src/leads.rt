@@ -1,0 +1,60 @@
+//! Theorems on chains of ideals that are generated in bounded degree: how many leads they have, and when they repeat. A
+//! function of this module does nothing: its clause is the theorem, and the check proves it.
+
+ghost use Rattle.fj_testideal.specs.LeadLaws.{BasisTellsLeads, EachPeriodMovesLeads, EqualByLeads, FallingChainRepeats, LeadsAreFew, MonomialCountIsBinomial, MonomialsCounted, PartsAreBounded, PeriodsRepeat, RisingChainRepeats, RootsAreBounded, StrictStepCounts};
+
+/// Nested ideals, both generated in bounded degree, with the same leads of bounded degree are equal.
+pub fn equal_by_leads()
+    ensures { EqualByLeads }
+{}
+
+/// There are C(n + D, n) monomials of degree at most D in n variables.
+pub fn monomials_counted()
+    ensures counted { MonomialsCounted }
+    ensures binomial { MonomialCountIsBinomial }
+{}
+
+/// A reduced Grevlex basis tells the leads of members.
+pub fn basis_tells_leads()
+    ensures { BasisTellsLeads }
+{}
+
+/// There are at most C(n + D, n) leads of degree at most D in n variables.
+pub fn leads_are_few()
+    ensures { LeadsAreFew }
+{}
+
+/// Each strict step of a chain of ideals that are generated in bounded degree moves the number of leads by one at least.
+pub fn strict_step_counts()
+    ensures { StrictStepCounts }
+{}
+
+/// A rising chain with more than C(n + D, n) steps repeats.
+pub fn rising_chain_repeats()
+    ensures { RisingChainRepeats }
+{}
+
+/// A falling chain with more than C(n + D, n) steps repeats.
+pub fn falling_chain_repeats()
+    ensures { FallingChainRepeats }
+{}
+
+/// The parts at e of f^m, m <= p^e, have degree at most (m deg f)/p^e and no other variables than f.
+pub fn parts_are_bounded()
+    ensures { PartsAreBounded }
+{}
+
+/// The root at e of f^m, m <= p^e, is generated in degree at most deg f in the variables of f.
+pub fn roots_are_bounded()
+    ensures { RootsAreBounded }
+{}
+
+/// A further period gives the same ideal, or moves the number of leads.
+pub fn each_period_moves_leads()
+    ensures { EachPeriodMovesLeads }
+{}
+
+/// The chains of a period repeat within C(n + deg f, n) + 1 periods.
+pub fn periods_repeat()
+    ensures { PeriodsRepeat }
+{}

@@ -1,0 +1,14 @@
+//! Theorems on the list of jumps for E. A function of this module does nothing: its clause is the theorem, and the check
+//! proves it.
+
+ghost use Rattle.fj_testideal.specs.ListLaws.{CompleteListsHaveAllJumps, JumpsAreListedOrInOpenGaps};
+
+/// An F-jumping number of (0, 1] is in the list for E, or lies inside an open gap.
+pub fn jumps_are_listed_or_in_open_gaps()
+    ensures { JumpsAreListedOrInOpenGaps }
+{}
+
+/// Where no gap is open, the list for E has all F-jumping numbers of (0, 1].
+pub fn complete_lists_have_all_jumps()
+    ensures { CompleteListsHaveAllJumps }
+{}
