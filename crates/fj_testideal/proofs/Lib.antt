@@ -10,3 +10,5 @@ pub mod PeriodValue
 pub mod ChainLimit
 pub mod MonomialRoot
 pub mod PowersOfVariable
+pub mod TermSum
+pub mod Cusp

@@ -1,7 +1,7 @@
 //! Examples that tell the definitions from readings near to them, and test ideals of monomials. A function of this module
 //! does nothing: its clause is the theorem, and the check proves it.
 
-ghost use Rattle.fj_testideal.specs.Examples.{FallingChainStartsAtOne, LowestDigitComesFirst, OneRootIsNoLimit};
+ghost use Rattle.fj_testideal.specs.Examples.{FallingChainStartsAtOne, IsCuspOverFive, LowestDigitComesFirst, OneRootIsNoLimit};
 ghost use Rattle.fj_testideal.specs.MonomialLaws.{LimitsOfMonomials};
 
 /// The test ideal of a monomial x^a at t has the exponents t a, rounded down; its left limit has the greatest whole numbers
@@ -23,4 +23,10 @@ pub fn falling_chain_starts_at_one()
 /// The digits of a period are used from the lowest on: f = x^5 and t = 1/3 over GF(2).
 pub fn lowest_digit_comes_first()
     ensures { LowestDigitComesFirst }
+{}
+
+/// The cusp x^2 + y^3 over GF(5) at 4/5: the test ideal is (y, x) and the left limit (1), and 4/5 is an F-jumping number. A
+/// falling chain from (f) would give (y, x) for both.
+pub fn cusp_over_five()
+    ensures { IsCuspOverFive }
 {}
