@@ -5,6 +5,7 @@ pub mod TestIdeal
 pub mod Jump
 pub mod LeftLimit
 pub mod ConstantInside
+pub mod RightLimit
 pub mod Chain
 pub mod PeriodValue
 pub mod ChainLimit
