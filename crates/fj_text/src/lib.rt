@@ -2,5 +2,7 @@
 #![tactic(auto)]
 
 mod names;
+mod printed;
 
 pub use names::Names;
+pub use printed::{print_list, print_poly, print_ratio};
