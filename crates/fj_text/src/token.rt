@@ -1,6 +1,6 @@
 //! The tokens of a line.
-ghost use Rattle.std.specs.Prelude.{◌≡◌, ◌+◌, ◌≤◌, ◌<◌, zero, length, drop, IfSome, All, IsTrue};
-ghost use Rattle.std.specs.List.{prefix_len};
+ghost use Rattle.std.specs.Prelude.{◌≡◌, ◌+◌, ◌≤◌, ◌<◌, zero, length, drop, IfSome, IsTrue};
+ghost use Rattle.std.specs.List.{list_all, prefix_len};
 ghost use Rattle.std.specs.Option.{option_map};
 ghost use Rattle.std.specs.Char.{is_ascii_digit};
 ghost use Rattle.fj_text.specs.Word.{is_word_start, is_word_byte};
@@ -85,7 +85,7 @@ fn blank_len(bytes: &[u8]) -> usize
 
 /// The value of digits, or 2^32 where it is greater.
 fn number_shown(digits: &[u8]) -> u64
-    requires { All (λ d. IsTrue (is_ascii_digit d)) digits.now }
+    requires { IsTrue (list_all is_ascii_digit digits.now) }
     ensures { result ≡ number_shown digits.now }
 {
     let mut number: u64 = 0;
