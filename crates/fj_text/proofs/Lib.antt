@@ -1,3 +1,5 @@
+pub mod Numbers
+pub mod Tokens
 pub mod Places
 pub mod Joined
 pub mod TermText
