@@ -3,3 +3,4 @@ pub mod Tokens
 pub mod Places
 pub mod Joined
 pub mod TermText
+pub mod PrintedTokens

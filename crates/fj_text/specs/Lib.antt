@@ -6,3 +6,4 @@ pub mod Seen
 pub mod Expression
 pub mod Reading
 pub mod Variable
+pub mod PrintedLaws
