@@ -4,3 +4,5 @@ pub mod Places
 pub mod Joined
 pub mod TermText
 pub mod PrintedTokens
+pub mod PrintedPieces
+pub mod SmallPolynomials

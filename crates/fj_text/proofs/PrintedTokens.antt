@@ -191,7 +191,7 @@ number_at_front b bytes rest h ends =
     let one : 1 + length bytes ≡ suc (length bytes) = omega arith in
     rw (start, digit, size, one) (ap (λ ds. Some (Number (number_shown ds), suc (length bytes))) (take-append_seam (b ∷ bytes) rest))
 
-lexed_digits : (ds : List ℕ) (n : ℕ) → 0 < length ds → AllDigits 10 ds → number_shown ds ≡ n → Lexed ds ((Number n, length ds) ∷ [])
+pub lexed_digits : (ds : List ℕ) (n : ℕ) → 0 < length ds → AllDigits 10 ds → number_shown ds ≡ n → Lexed ds ((Number n, length ds) ∷ [])
 lexed_digits [] n some h shown = absurd (omega arith)
 lexed_digits (b ∷ bytes) n some h shown =
     let r = digit_from_value b h.0 in

@@ -1,4 +1,5 @@
-use Rattle.fj_text.proofs.PrintedTokens.{lexed_number}
+use Rattle.fj_text.proofs.PrintedPieces.{lexed_sum}
+use Rattle.fj_text.proofs.SmallPolynomials.{product_within, power_within_small}
 use Rattle.fj_text.proofs.laws.printed_is_read.Goals as goal
 
 pub returns : goal.returns
