@@ -6,3 +6,4 @@ pub mod TermText
 pub mod PrintedTokens
 pub mod PrintedPieces
 pub mod SmallPolynomials
+pub mod PrintedReading
