@@ -7,3 +7,5 @@ pub mod PrintedTokens
 pub mod PrintedPieces
 pub mod SmallPolynomials
 pub mod PrintedReading
+pub mod PrintedValues
+pub mod PrintedLaw

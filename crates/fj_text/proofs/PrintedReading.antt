@@ -132,13 +132,15 @@ module _ (F : Field) (meaning : List ℕ → Meaning) (inside : State → Answer
 
   -- These tokens are read as a factor of this value; a `-` doesn't come first.
   pub record IsFactor (tokens : List Spelled) (f : Polynomial) : Type 0 where
+    pub some : 0 < length tokens
     pub reads : (column start : ℕ) (rest : List Placed) → LacksSign caret rest → IsAnswered (factor F meaning inside (standing (placed_from column tokens ++ rest) start column)) f rest (end_column column tokens)
     pub plain : (column : ℕ) (rest : List Placed) → LacksSign minus (placed_from column tokens ++ rest)
 
-  pub number_factor : (n : ℕ) → n < 2 ^ 32 → IsFactor (number_tokens n) (term (n % F.characteristic) origin)
-  number_factor n low =
+  pub number_factor : (n len : ℕ) → n < 2 ^ 32 → IsFactor ((Number n, len) ∷ []) (term (n % F.characteristic) origin)
+  number_factor n len low =
       record {
-        reads = λ column start rest ends. record { start = column; is = bare_factor _ _ _ (read_number n _ column start rest low) (ends column _) };
+        some = omega arith;
+        reads = λ column start rest ends. record { start = column; is = bare_factor _ _ _ (read_number n len column start rest low) (ends column _) };
         plain = λ column rest. lacks_at_number minus n _ _ rest;
       }
 
@@ -149,11 +151,13 @@ module _ (F : Field) (meaning : List ℕ → Meaning) (inside : State → Answer
         | inl one ↦ rw one (
           let same : term 1 (variable_exponents i) ≡ g = same_Some _ _ (ap (power_within F (term 1 (variable_exponents i))) (sym (eqb-true e 1 one)) ∙ power) in
           record {
+            some = omega arith;
             reads = λ column start rest ends. record { start = column; is = bare_factor _ _ _ (read_word name (length name) i column start rest known) (ends column _) ∙ ap (λ f. Ok (f, standing rest column (column + length name))) same };
             plain = λ column rest. lacks_at_word minus name _ _ rest;
           })
         | inr other ↦ rw other (
           record {
+            some = omega arith;
             reads = λ column start rest ends. record {
               start = column + length name + 1;
               is = raised_factor (term 1 (variable_exponents i)) g _ e (length (decimal e)) column (column + length name) rest low power
@@ -188,6 +192,7 @@ module _ (F : Field) (meaning : List ℕ → Meaning) (inside : State → Answer
 
   -- These tokens are read as a term of this value; a `-` doesn't come first.
   pub record IsReadTerm (tokens : List Spelled) (f : Polynomial) : Type 0 where
+    pub some : 0 < length tokens
     pub reads : (column start : ℕ) (rest : List Placed) → EndsTerm rest → IsAnswered (term_at F meaning inside (standing (placed_from column tokens ++ rest) start column)) f rest (end_column column tokens)
     pub plain : (column : ℕ) (rest : List Placed) → LacksSign minus (placed_from column tokens ++ rest)
 
@@ -203,6 +208,7 @@ module _ (F : Field) (meaning : List ℕ → Meaning) (inside : State → Answer
   factors_term tokens pieces f g first turned =
       let later : List Spelled = behind_signs 42 pieces in
       record {
+        some = omega (arith, first.some, length-append tokens later);
         reads = λ column start rest ends.
             let behind = end_column column tokens in
             let left : List Placed = placed_from behind later ++ rest in

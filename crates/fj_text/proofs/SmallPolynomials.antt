@@ -100,11 +100,11 @@ module _ {F : Field} (L : IsField F) where
       by P none a false e = L.add_zero _ (coefficient_below P (zero_below L) a)
 
 -- In a list of terms apart from each other, a term is apart from those before it.
-at_seam : {X : Type 0} (P : X → Type 0) (xs : List X) (y : X) (ys : List X) → All P (xs ++ y ∷ ys) → P y
+pub at_seam : {X : Type 0} (P : X → Type 0) (xs : List X) (y : X) (ys : List X) → All P (xs ++ y ∷ ys) → P y
 at_seam P [] y ys all = All-head P y ys all
 at_seam P (x ∷ xs) y ys all = at_seam P xs y ys (All-tail P x (xs ++ y ∷ ys) all)
 
-same_back : (a b : List ℕ) → same a b ≡ false → same b a ≡ false
+pub same_back : (a b : List ℕ) → same a b ≡ false → same b a ≡ false
 same_back a b h = same_false b a (λ e. true≢false (sym (ap (same a) e ∙ same_itself a) ∙ h))
 
 pub fresh_behind : (xs : List (List ℕ × ℕ)) (t : List ℕ × ℕ) (ts : List (List ℕ × ℕ)) → Apart (xs ++ t ∷ ts) → All (λ u. same t.0 u.0 ≡ false) xs
