@@ -9,3 +9,4 @@ pub mod SmallPolynomials
 pub mod PrintedReading
 pub mod PrintedValues
 pub mod PrintedLaw
+pub mod FirstVariables

@@ -1,5 +1,5 @@
 -- The printed texts of polynomials, lists of polynomials and fractions, as bytes.
-use Rattle.std.specs.Prelude.{◌≡◌, ℕ, ◌==◌, if◌then◌else◌, List, [], ◌∷◌, ◌++◌, length, map, drop, All, codes, decimal}
+use Rattle.std.specs.Prelude.{ℕ, ◌==◌, if◌then◌else◌, List, [], ◌∷◌, ◌++◌, map, codes, decimal}
 use Rattle.std.specs.List.{flat_map}
 use Rattle.fj_theory.specs.Fraction.{Fraction}
 use Rattle.fj_theory.specs.Plain.{PlainPolynomial}
@@ -45,7 +45,3 @@ list_bytes names l = codes "(" ++ joined (codes ", ") (or_zero (map (polynomial_
 -- A fraction: numerator and denominator parted by `/`, or the numerator alone where the denominator is 1.
 abbrev pub ratio_bytes : Fraction → List ℕ
 ratio_bytes t = if t.denominator == 1 then decimal t.numerator else decimal t.numerator ++ codes "/" ++ decimal t.denominator
-
--- No variable past the names occurs.
-abbrev pub IsInNames : List (List ℕ) → PlainPolynomial → Type 0
-IsInNames names f = All (λ t. All (λ exponent. exponent ≡ 0) (drop (length names) t.0)) f.terms

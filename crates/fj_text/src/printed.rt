@@ -1,8 +1,10 @@
 //! The printed text of polynomials, lists of polynomials and fractions.
-ghost use Rattle.std.specs.Prelude.{ℕ, ◌≡◌, ◌==◌, [], ◌++◌, map, All, codes, decimal, IfOk, OnOk, if◌then◌else◌};
+ghost use Rattle.std.specs.Prelude.{ℕ, ◌≡◌, ◌==◌, [], ◌++◌, length, map, All, codes, decimal, IfOk, OnOk, if◌then◌else◌};
 ghost use Rattle.fj_plain.specs.Terms.{entry};
 ghost use Rattle.fj_theory.specs.Fraction.{IsLowest};
-ghost use Rattle.fj_text.specs.Printed.{IsInNames, joined, list_bytes, or_zero, polynomial_bytes, power_bytes, ratio_bytes, term_bytes};
+ghost use Rattle.fj_theory.specs.Plain.{polynomial};
+ghost use Rattle.fj_theory.specs.PointIdeal.{UsesFirst};
+ghost use Rattle.fj_text.specs.Printed.{joined, list_bytes, or_zero, polynomial_bytes, power_bytes, ratio_bytes, term_bytes};
 
 use crate::names::Names;
 use fj_plain::{PlainList, PlainPoly, PlainTerm};
@@ -18,7 +20,7 @@ mod tests;
 ///
 /// Condition: no variable past the names occurs.
 pub fn print_poly(alloc: Global, h: &PlainPoly, vars: &Names) -> Result<Vec<u8>, AllocError>
-    requires { IsInNames vars.now h.now }
+    requires { UsesFirst (length vars.now) (polynomial h.now) }
     ensures { IfOk result (λ text. text.items ≡ polynomial_bytes vars.now h.now) }
 {
     let mut out = Vec::new(alloc);
@@ -31,7 +33,7 @@ pub fn print_poly(alloc: Global, h: &PlainPoly, vars: &Names) -> Result<Vec<u8>,
 ///
 /// Condition: no variable past the names occurs.
 pub fn print_list(alloc: Global, l: &PlainList, vars: &Names) -> Result<Vec<u8>, AllocError>
-    requires { All (IsInNames vars.now) l.now }
+    requires { All (λ h. UsesFirst (length vars.now) (polynomial h)) l.now }
     ensures { IfOk result (λ text. text.items ≡ list_bytes vars.now l.now) }
 {
     let mut out = Vec::new(alloc);

@@ -1,5 +1,7 @@
 //! The texts of polynomials, lists and fractions.
-ghost use Rattle.std.specs.Prelude.{◌≡◌, All, IfOk, drop};
+ghost use Rattle.std.specs.Prelude.{IfOk};
+ghost use Rattle.fj_theory.specs.Plain.{polynomial};
+ghost use Rattle.fj_theory.specs.PointIdeal.{UsesFirst};
 
 use super::{print_list, print_poly, print_ratio};
 use crate::names::Names;
@@ -18,7 +20,7 @@ fn polynomial(
     alloc: Global,
     terms: &[([u64; 3], u64)],
 ) -> Result<PlainPoly, AllocError>
-    ensures { IfOk result (λ f. All (λ t. All (λ exponent. exponent ≡ 0) (drop 3 t.0)) f.terms) }
+    ensures { IfOk result (λ f. UsesFirst 3 (polynomial f)) }
 {
     let mut list = Vec::new(alloc);
     for ([x, y, z], rank) in terms {

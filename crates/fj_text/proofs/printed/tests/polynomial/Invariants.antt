@@ -1,5 +1,6 @@
-use Rattle.std.proofs.Common.{◌≡◌, All, drop}
+use Rattle.std.proofs.Common.{All}
+use Rattle.fj_text.proofs.FirstVariables.{AreZeroFrom}
 use Rattle.fj_text.proofs.printed.tests.polynomial.Given as goal
 
-abbrev pub invariant-loop-terms : goal.invariant-loop-terms
-invariant-loop-terms g l = All (λ t. All (λ exponent. exponent ≡ 0) (drop 3 t.exps)) l.list.items
+abbrev pub invariant-loop-x : goal.invariant-loop-x
+invariant-loop-x g l = All (λ t. AreZeroFrom 3 t.exps) l.list.items
