@@ -1,3 +1,4 @@
 pub mod Numbers
 pub mod Tokens
 pub mod Places
+pub mod Readers
