@@ -2,3 +2,4 @@ pub mod Numbers
 pub mod Tokens
 pub mod Places
 pub mod Readers
+pub mod Values
