@@ -3,3 +3,5 @@ pub mod Tokens
 pub mod Places
 pub mod Readers
 pub mod Values
+pub mod Repeats
+pub mod Parentheses
