@@ -10,3 +10,7 @@ pub mod PrintedReading
 pub mod PrintedValues
 pub mod PrintedLaw
 pub mod FirstVariables
+pub mod Readers
+pub mod Values
+pub mod Repeats
+pub mod Parentheses

@@ -1,8 +1,11 @@
 -- The tokens from a column on: the first one, and the others.
-use Rattle.std.proofs.Common.{◌≡◌, ℕ, zero, suc, ◌+◌, ◌-◌, ◌<◌, ◌≤◌, Bool, true, false, cond, List, [], ◌∷◌, length, drop, Option, Some, None, IfSome, refl, sym, ap, ap₂, ◌∙◌, arith, inl, inr, add-one, add-zero}
+use Rattle.std.proofs.Common.{◌≡◌, ℕ, zero, suc, ◌+◌, ◌-◌, ◌<◌, ◌≤◌, Bool, true, false, cond, List, [], ◌∷◌, length, take, drop, Option, Some, None, IfSome, refl, sym, ap, subst, ◌∙◌, arith, inl, inr, add-one, add-zero}
 use Rattle.std.specs.List.{prefix_len}
 use Rattle.std.specs.Option.{option_map_or}
 use Rattle.std.proofs.lemmas.Bool.{cases_Bool}
+use Rattle.std.proofs.lemmas.List.{drop-drop, length-drop, take_all}
+use Rattle.fj_text.specs.declared.token.Placed as held
+use Rattle.fj_text.specs.Seen.{left_from, seen}
 use Rattle.fj_text.specs.Token.{Token, Placed, is_blank, token_at, tokens_from}
 
 -- the bytes of the token before are passed over
@@ -25,7 +28,7 @@ tokens-blank column (b ∷ bytes) =
       let one : 1 + n ≡ suc n = omega arith in
       let same : column + 1 + n ≡ column + suc n = omega arith in
       rw blank (rw one (tokens-blank (column + 1) bytes ∙ ap (λ m. tokens_from zero m (drop n bytes)) same))
-      | inr other ↦ rw other (rw (add-zero column) refl)
+      | inr other ↦ rw (other, add-zero column, other) refl
     ]
 
 -- the token at the front, and the tokens behind it
@@ -71,9 +74,34 @@ blank-front (b ∷ bytes) =
 pub tokens-first : (line : List ℕ) (column n : ℕ) → n ≡ prefix_len is_blank (drop column line) → IfSome (token_at (drop (column + n) line)) (IsInside (drop (column + n) line))
     → tokens_from zero column (drop column line) ≡ front_token (column + n) (drop (column + n) line) (token_at (drop (column + n) line))
 tokens-first line column n e inside =
-    let both : drop n (drop column line) ≡ drop (column + n) line = drop-drop column n line in
+    let both : drop n (drop column line) ≡ drop (column + n) line = drop-drop n column line in
     let blank : prefix_len is_blank (drop (column + n) line) ≡ 0 = ap (prefix_len is_blank) (sym both) ∙ ap (λ m. prefix_len is_blank (drop m (drop column line))) e ∙ blank-front (drop column line) in
     tokens-blank column (drop column line)
     ∙ ap (λ m. tokens_from zero (column + m) (drop m (drop column line))) (sym e)
     ∙ ap (tokens_from zero (column + n)) both
     ∙ tokens-front (column + n) (drop (column + n) line) blank inside
+
+pub rest_of : (n : ℕ) (line : List ℕ) → take (length line - n) (drop n line) ≡ drop n line
+rest_of n line = take_all (length line - n) (drop n line) (omega (arith, length-drop n line))
+
+-- where no token is at the front, there is none from the column on
+pub no_token : (line : List ℕ) (column n : ℕ) → n ≡ prefix_len is_blank (take (length line - column) (drop column line)) → None ≡ token_at (take (length line - (column + n)) (drop (column + n) line))
+    → left_from None line ≡ tokens_from zero column (drop column line)
+unfolding left_from
+no_token line column n e none =
+    let at : None ≡ token_at (drop (column + n) line) = none ∙ ap token_at (rest_of (column + n) line) in
+    let inside : IfSome (token_at (drop (column + n) line)) (IsInside (drop (column + n) line)) = subst (λ o. IfSome o (IsInside (drop (column + n) line))) at tt in
+    ap (front_token (column + n) (drop (column + n) line)) at ∙ sym (tokens-first line column n (e ∙ ap (prefix_len is_blank) (rest_of column line)) inside)
+
+-- where a token is at the front, it is the first one from the column on
+pub a_token : (line : List ℕ) (column n len : ℕ) (t : held.Placed) → n ≡ prefix_len is_blank (take (length line - column) (drop column line)) → Some (seen t.token, len) ≡ token_at (take (length line - (column + n)) (drop (column + n) line))
+    → 0 < len → len ≤ length (take (length line - (column + n)) (drop (column + n) line)) → t.start ≡ column + n → t.end ≡ column + n + len
+    → left_from (Some t) line ≡ tokens_from zero column (drop column line)
+unfolding left_from
+a_token line column n len t e some above below starts ends =
+    let rest = rest_of (column + n) line in
+    let at : Some (seen t.token, len) ≡ token_at (drop (column + n) line) = some ∙ ap token_at rest in
+    let short : len ≤ length (drop (column + n) line) = omega (arith, below, ap length rest) in
+    let inside : IfSome (token_at (drop (column + n) line)) (IsInside (drop (column + n) line)) = subst (λ o. IfSome o (IsInside (drop (column + n) line))) at (above, short) in
+    rw (starts, ends) (ap (λ bytes. record { token = seen t.token; start = column + n; end = column + n + len } ∷ tokens_from zero (column + n + len) bytes) (sym (drop-drop len (column + n) line)))
+    ∙ ap (front_token (column + n) (drop (column + n) line)) at ∙ sym (tokens-first line column n (e ∙ ap (prefix_len is_blank) (rest_of column line)) inside)

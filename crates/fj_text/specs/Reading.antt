@@ -13,7 +13,7 @@ use Rattle.fj_text.specs.declared.fault.TextFault.TheVariants as texts
 use Rattle.fj_text.specs.declared.scope.Meaning.{Meaning}
 use Rattle.fj_text.specs.declared.scope.Meaning.TheVariants as meanings
 use Rattle.fj_text.specs.Word.{place_of}
-use Rattle.fj_text.specs.State.{State, ◌>>=◌, is_bad_first, state_at, unexpected}
+use Rattle.fj_text.specs.State.{State, ◌>>=◌, is_bad_next, state_at, unexpected}
 use Rattle.fj_text.specs.Expression.{Answer, expression}
 
 -- A function reads what a rule answers: the value, with this state after it, or the first fault. Of want of memory
@@ -41,7 +41,7 @@ meaning_among names word = meaning_at (place_of names word)
 -- The expression of a line from a column on, and the column behind its last token. What follows it isn't judged, but for
 -- a bad byte.
 abbrev pub unless_bad : {A : Type 0} → A × State → Result (A × ℕ) Fault
-unless_bad (f, s) = if is_bad_first s.left then Err (unexpected s) else Ok (f, s.end)
+unless_bad (f, s) = if is_bad_next s then Err (unexpected s) else Ok (f, s.end)
 
 unfoldable pub text_at : Field → List (List ℕ) → List ℕ → ℕ → Result (Polynomial × ℕ) Fault
 text_at F names line column = expression F (meaning_among names) (state_at line column) >>= unless_bad

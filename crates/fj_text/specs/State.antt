@@ -1,6 +1,7 @@
 -- The state of the reading of a line: the tokens left, and the columns of the token that was taken last.
 use Rattle.std.specs.Prelude.{◌≡◌, ℕ, zero, ◌==◌, Bool, true, false, if◌then◌else◌, List, [], ◌∷◌, ◌++◌, drop, Result, Ok, Err, Some, None}
 use Rattle.std.specs.declared.option.Option.{Option}
+use Rattle.std.specs.Option.{option_and_then, option_map_or}
 use Rattle.fj_text.specs.Token.{Token, Word, Number, Sign, BadByte, Placed, tokens_from}
 use Rattle.fj_text.specs.declared.fault.Cause.{Cause}
 use Rattle.fj_text.specs.declared.fault.Cause.TheVariants as causes
@@ -19,8 +20,7 @@ abbrev pub ◌>>=◌ : {A B : Type 0} → Result A Fault → (A → Result B Fau
 -- the column behind the last token, or a column where there is none
 abbrev pub end_of : List Placed → ℕ → ℕ
 end_of [] column = column
-end_of (t ∷ []) column = t.end
-end_of (t ∷ u ∷ ts) column = end_of (u ∷ ts) column
+end_of (t ∷ ts) column = end_of ts t.end
 
 -- Before the first token from a column on. A line that ends there too early ends behind its last token, and at that
 -- column where the whole line holds no token.
@@ -54,18 +54,22 @@ unexpected s = elim s.left [ [] ↦ record { cause = causes.Syntax; place = s.en
 unfoldable pub next : State → Option (Token × State)
 next s = elim s.left [ [] ↦ None | t ∷ ts ↦ Some (t.token, after t ts) ]
 
--- The state after the next token, where it is this sign.
-abbrev pub sign_taken : ℕ → Option (Token × State) → Option State
-sign_taken sign None = None
-sign_taken sign (Some (Word w, s)) = None
-sign_taken sign (Some (Number n, s)) = None
-sign_taken sign (Some (Sign b, s)) = if b == sign then Some s else None
-sign_taken sign (Some (BadByte, s)) = None
+abbrev pub is_the_sign : ℕ → Token → Bool
+is_the_sign sign (Word w) = false
+is_the_sign sign (Number n) = false
+is_the_sign sign (Sign b) = b == sign
+is_the_sign sign BadByte = false
 
+-- The state after the next token, where it is this sign.
 unfoldable pub after_sign : ℕ → State → Option State
-after_sign sign s = sign_taken sign (next s)
+after_sign sign s = option_and_then (λ t. if is_the_sign sign t.0 then Some t.1 else None) (next s)
+
+abbrev pub is_bad : Token → Bool
+is_bad (Word w) = false
+is_bad (Number n) = false
+is_bad (Sign b) = false
+is_bad BadByte = true
 
 -- Whether the next token is a bad byte.
-abbrev pub is_bad_first : List Placed → Bool
-is_bad_first [] = false
-is_bad_first (t ∷ ts) = elim t.token [ Word w ↦ false | Number n ↦ false | Sign b ↦ false | BadByte ↦ true ]
+unfoldable pub is_bad_next : State → Bool
+is_bad_next s = option_map_or (λ t. is_bad t.0) (next s) false

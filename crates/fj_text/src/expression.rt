@@ -42,6 +42,13 @@ fn within<K: Coeff>(f: GPoly<K>) -> Option<GPoly<K>>
     if is_large(&f) { None } else { Some(f) }
 }
 
+/// The negative.
+fn negative<K: Coeff>(alloc: Global, f: &GPoly<K>) -> Result<GPoly<K>, AllocError>
+    ensures { IfOk result (λ p. p ≡ negation K.field f.now) }
+{
+    f.scale(alloc, K::one().neg())
+}
+
 /// The product, where it isn't large.
 fn product_within<K: Coeff>(
     alloc: Global,
@@ -60,17 +67,17 @@ fn product_within<K: Coeff>(
 /// The k-th power by k - 1 products, where none of them is large.
 fn power_within<K: Coeff>(
     alloc: Global,
-    f: GPoly<K>,
+    f: &GPoly<K>,
     k: u64,
 ) -> Result<Option<GPoly<K>>, AllocError>
-    ensures { IfOk result (λ p. p ≡ power_within K.field f k) }
+    ensures { IfOk result (λ p. p ≡ power_within K.field f.now k) }
 {
     if k == 0 {
         return Ok(Some(Poly::term(alloc, K::one(), &Mono::one())?));
     }
     let mut power = f.copy(alloc)?;
-    for _ in 1..k {
-        let Some(product) = product_within(alloc, &power, &f)? else {
+    'products: for _formed in 1..k {
+        let Some(product) = product_within(alloc, &power, f)? else {
             return Ok(None);
         };
         power = product;
@@ -202,7 +209,7 @@ fn factor<K: Coeff, S: Scope>(
         return Ok(base);
     }
     let k = exponent(reader)?;
-    formed(power_within(alloc, base, k)?, reader)
+    formed(power_within(alloc, &base, k)?, reader)
 }
 
 /// A value times the factor behind a `*`, where there is one.
@@ -339,13 +346,6 @@ fn parenthesised<K: Coeff, S: Scope>(
         return Err(reader.unexpected().into());
     }
     Ok(value)
-}
-
-/// The negative.
-fn negative<K: Coeff>(alloc: Global, f: &GPoly<K>) -> Result<GPoly<K>, AllocError>
-    ensures { IfOk result (λ p. p ≡ negation K.field f.now) }
-{
-    Poly::zero(alloc).sub(alloc, f)
 }
 
 /// The expression at the front of the tokens that are left. It is read as far as it goes, and the token behind it isn't

@@ -1,7 +1,8 @@
 //! The reading of a line, token by token.
-ghost use Rattle.std.specs.Prelude.{◌≡◌, ◌<◌, ◌≤◌, length, IsTrue, IsFalse, IfNone, MatchOption, None, Some};
+ghost use Rattle.std.specs.Prelude.{◌≡◌, ◌<◌, ◌≤◌, length, IfNone, OnSome, MatchOption, None, Some};
+ghost use Rattle.std.specs.Bool.{OnTrue, OnFalse};
 ghost use Rattle.fj_text.specs.Seen.{seen};
-ghost use Rattle.fj_text.specs.State.{after_sign, blame, fault_at, is_bad_first, next, state_at, unexpected};
+ghost use Rattle.fj_text.specs.State.{after_sign, blame, fault_at, is_bad, is_bad_next, is_the_sign, next, state_at, unexpected};
 
 use super::fault::{Cause, Fault};
 use super::token::{Placed, Token, end_of_line, token_from};
@@ -40,6 +41,28 @@ fn blame(token: Token) -> Cause
     }
 }
 
+fn is_bad(token: Token) -> bool
+    ensures { result ≡ is_bad (seen token.entry) }
+{
+    match token {
+        Token::BadByte => true,
+        Token::Word(_) => false,
+        Token::Number(_) => false,
+        Token::Sign(_) => false,
+    }
+}
+
+fn is_the_sign(token: Token, sign: u8) -> bool
+    ensures { result ≡ is_the_sign sign (seen token.entry) }
+{
+    match token {
+        Token::Sign(next) => next == sign,
+        Token::Word(_) => false,
+        Token::Number(_) => false,
+        Token::BadByte => false,
+    }
+}
+
 impl<'a> Reader<'a> {
     /// The reading of a line from a column on.
     pub fn new(line: &'a [u8], column: usize) -> Reader<'a>
@@ -49,7 +72,7 @@ impl<'a> Reader<'a> {
         let next = token_from(line, column);
         let end = match next {
             Some(_) => column,
-            None => end_of_line(line).unwrap_or(column),
+            None => end_of_line(line, column),
         };
         Reader {
             line,
@@ -63,6 +86,7 @@ impl<'a> Reader<'a> {
     pub fn take(&mut self) -> Option<Token<'a>>
         ensures taken { MatchOption result (next self.old ≡ None) (λ t. next self.old ≡ Some (seen t, self.new)) }
         ensures stays { IfNone result (self.new ≡ self.old) }
+        ensures fewer { OnSome result (length self.new.left < length self.old.left) }
     {
         let t = self.next?;
         self.next = token_from(self.line, t.end);
@@ -73,21 +97,18 @@ impl<'a> Reader<'a> {
 
     /// Takes the next token where it is this sign, and says whether it is.
     pub fn take_sign(&mut self, sign: u8) -> bool
-        ensures taken { IsTrue result → after_sign sign self.old ≡ Some self.new }
-        ensures stays { IsFalse result → (after_sign sign self.old ≡ None) × (self.new ≡ self.old) }
+        ensures taken { OnTrue result (after_sign sign self.old ≡ Some self.new) }
+        ensures stays { OnFalse result ((after_sign sign self.old ≡ None) × (self.new ≡ self.old)) }
+        ensures fewer { OnTrue result (length self.new.left < length self.old.left) }
     {
-        match self.next {
-            Some(
-                Placed {
-                    token: Token::Sign(next),
-                    ..
-                },
-            ) if next == sign => {
-                let _sign = self.take();
-                true
-            }
-            _ => false,
+        let Some(t) = self.next else {
+            return false;
+        };
+        if !is_the_sign(t.token, sign) {
+            return false;
         }
+        let _sign = self.take();
+        true
     }
 
     /// The fault at the next token, which may not stand there, or behind the last one where the line ends.
@@ -108,15 +129,12 @@ impl<'a> Reader<'a> {
 
     /// Whether the next token is a bad byte.
     pub fn is_bad_next(&self) -> bool
-        ensures { result ≡ is_bad_first self.now.left }
+        ensures { result ≡ is_bad_next self.now }
     {
-        matches!(
-            self.next,
-            Some(Placed {
-                token: Token::BadByte,
-                ..
-            })
-        )
+        match self.next {
+            Some(t) => is_bad(t.token),
+            None => false,
+        }
     }
 
     /// A fault at the token that was taken last.

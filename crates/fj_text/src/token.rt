@@ -5,6 +5,7 @@ ghost use Rattle.std.specs.Option.{option_map};
 ghost use Rattle.std.specs.Char.{is_ascii_digit};
 ghost use Rattle.fj_text.specs.Word.{is_word_start, is_word_byte};
 ghost use Rattle.fj_text.specs.Token.{is_blank, is_sign, number_shown, token_at, tokens_from};
+ghost use Rattle.fj_text.specs.State.{end_of};
 ghost use Rattle.fj_text.specs.Seen.{left_from, seen};
 
 /// A number above 2^32 - 1 is shown as 2^32.
@@ -133,12 +134,14 @@ pub(crate) fn token_from(line: &[u8], column: usize) -> Option<Placed<'_>>
     })
 }
 
-/// The column behind the last token of a line, where it holds one.
-pub(crate) fn end_of_line(line: &[u8]) -> Option<usize> {
-    let mut end = None;
+/// The column behind the last token of a line, or a column where it holds none.
+pub(crate) fn end_of_line(line: &[u8], column: usize) -> usize
+    ensures { result ≡ end_of (tokens_from zero zero line.now) column }
+{
+    let mut end = column;
     let mut next = token_from(line, 0);
-    while let Some(t) = next {
-        end = Some(t.end);
+    'tokens: while let Some(t) = next {
+        end = t.end;
         next = token_from(line, t.end);
     }
     end
