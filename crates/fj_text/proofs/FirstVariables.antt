@@ -1,10 +1,8 @@
 -- Polynomials in the first variables, by their terms.
-use Rattle.std.proofs.Common.{◌≡◌, ℕ, ◌+◌, ◌<◌, ◌≤◌, List, [], ◌∷◌, get_or, All, nat_cmp, Some, refl, sym, ◌∙◌, arith}
-use Rattle.std.specs.Cmp.Lexicographic.{slice_cmp}
-use Rattle.std.specs.FinMap.{find, from_entries, get-from_entries}
+use Rattle.std.proofs.Common.{◌≡◌, ℕ, ◌≤◌, List, get_or, All, sym, ◌∙◌}
+use Rattle.std.specs.FinMap.{from_entries, get-from_entries}
 use Rattle.std.proofs.lemmas.Cmp.{nat_list_cmp_total}
 use Rattle.fj_theory.specs.PointIdeal.{UsesFirst}
-use Rattle.fj_theory.specs.Polynomial.{coefficient}
 use Rattle.fj_theory.proofs.Polynomial.{get-coefficient}
 use Rattle.fj_theory.proofs.Terms.{find_All}
 

@@ -1,7 +1,6 @@
 -- A printed polynomial is read as it was.
-use Rattle.std.proofs.Common.{◌≡◌, ◌≢◌, ℕ, zero, suc, ◌+◌, ◌^◌, ◌<◌, ◌≤◌, Bool, true, false, cond, List, [], ◌∷◌, ◌++◌, length, map, drop, get_or, All, AllPairs, Option, Some, None, Ok, nat_cmp, refl, sym, ap, ap₂, subst, ◌∙◌, append_assoc, append-nil, length-append, arith, inl, inr, ◌%◌}
+use Rattle.std.proofs.Common.{◌≡◌, ℕ, zero, ◌+◌, ◌^◌, ◌<◌, ◌≤◌, false, cond, List, [], ◌∷◌, ◌++◌, length, map, get_or, All, Some, Ok, refl, sym, ap, subst, ◌∙◌, append_assoc, append-nil, length-append, arith, inl, inr, ◌%◌}
 use Rattle.std.specs.FinMap.{empty, from_entries}
-use Rattle.std.specs.Cmp.Lexicographic.{slice_cmp}
 use Rattle.std.specs.Str.{bytes_eq}
 use Rattle.std.proofs.Math.Nat.{mod-eq_of_lt}
 use Rattle.std.proofs.lemmas.Bool.{cases_Bool}
@@ -10,8 +9,7 @@ use Rattle.std.proofs.lemmas.Slice.Eq.{bytes_eq-Decides}
 use Rattle.fj_coeff.specs.Field.{Field, IsField}
 use Rattle.fj_coeff.specs.PrimeFieldLaws.{prime_bounds}
 use Rattle.fj_theory.specs.Exponents.{origin, total}
-use Rattle.fj_theory.specs.Plain.{PlainPolynomial, HasRanksBelow, polynomial}
-use Rattle.fj_theory.specs.PointIdeal.{UsesFirst}
+use Rattle.fj_theory.specs.Plain.{PlainPolynomial, polynomial}
 use Rattle.fj_theory.specs.Polynomial.{Polynomial, IsTerm, coefficient, sum, term}
 use Rattle.fj_theory.proofs.Exponents.{IsExponents-origin, total-cons}
 use Rattle.fj_theory.proofs.FormalSum.{same, same_itself}
@@ -20,19 +18,19 @@ use Rattle.fj_theory.proofs.Plain.{Apart-from_distinct}
 use Rattle.fj_theory.proofs.Terms.{Apart, coefficient-from_entries_cons}
 use Rattle.fj_text.specs.declared.scope.Meaning.{Meaning}
 use Rattle.fj_text.specs.declared.scope.Meaning.TheVariants as meanings
-use Rattle.fj_text.specs.Word.{AreNames, IsWord, place_of}
+use Rattle.fj_text.specs.Word.{AreNames}
 use Rattle.fj_text.specs.Token.{Number, Placed, tokens_from}
-use Rattle.fj_text.specs.State.{State, ◌>>=◌, state_at, state_from}
+use Rattle.fj_text.specs.State.{State, is_bad_next, next, ◌>>=◌, state_at, state_from}
 use Rattle.fj_text.specs.Expression.{Answer, expression, parenthesised, plus_term, sum_at, within}
 use Rattle.fj_text.specs.Reading.{meaning_among, meaning_at, text_at, unless_bad}
 use Rattle.fj_text.specs.Printed.{polynomial_bytes}
 use Rattle.fj_text.specs.PrintedLaws.{IsSmall, PrintedIsRead}
 use Rattle.fj_text.proofs.Places.{place_found}
 use Rattle.fj_text.proofs.PrintedTokens.{Spelled, Lexed, end_column, placed_from}
-use Rattle.fj_text.proofs.PrintedPieces.{IsLow, behind_signs, lexed_sum, parted, term_tokens, terms_tokens}
-use Rattle.fj_text.proofs.PrintedReading.{AreTurned, EndsTerm, IsAnswered, IsReadTerm, factors_term, number_factor, plus_turned, standing, terms_sum}
-use Rattle.fj_text.proofs.PrintedValues.{AreVariables, IsNamed, IsPrintable, term_read}
-use Rattle.fj_text.proofs.SmallPolynomials.{AreLow, at_seam, fresh_behind, not_large, same_back, single, sum_push, within_small}
+use Rattle.fj_text.proofs.PrintedPieces.{IsLow, behind_signs, lexed_sum, term_tokens, terms_tokens}
+use Rattle.fj_text.proofs.PrintedReading.{AreTurned, EndsTerm, IsAnswered, factors_term, number_factor, plus_turned, standing, terms_sum}
+use Rattle.fj_text.proofs.PrintedValues.{AreVariables, IsPrintable, term_read}
+use Rattle.fj_text.proofs.SmallPolynomials.{at_seam, fresh_behind, not_large, same_back, single, sum_push, within_small}
 
 -- the terms before a place
 All-front : {X : Type 0} (P : X → Type 0) (xs ys : List X) → All P (xs ++ ys) → All P xs
@@ -163,7 +161,7 @@ low_terms {F} L names f S k d h =
     record { exponents = entries_low (get_or f.terms k d).0 1000 (2 ^ 32) (S.low k d h) (omega arith); rank = omega (arith, rank, bounds.1) }
 
 pub printed_is_read : PrintedIsRead
-unfolding polynomial_bytes text_at expression
+unfolding polynomial_bytes text_at expression is_bad_next next
 printed_is_read F L names N f S =
     let line : List ℕ = polynomial_bytes names f in
     let tokens : List Spelled = terms_tokens names f.terms in

@@ -1,11 +1,10 @@
 -- The tokens of printed terms and polynomials.
-use Rattle.std.proofs.Common.{◌≡◌, ℕ, zero, suc, ◌+◌, ◌^◌, ◌<◌, ◌≤◌, Bool, true, false, if◌then◌else◌, ◌==◌, cond, eqb, List, [], ◌∷◌, ◌++◌, length, map, flat_map, get_or, All, refl, sym, ap, subst, ◌∙◌, append_assoc, append-nil, arith, codes, decimal, inl, inr}
+use Rattle.std.proofs.Common.{ℕ, ◌^◌, ◌<◌, if◌then◌else◌, ◌==◌, eqb, List, [], ◌∷◌, ◌++◌, length, map, flat_map, All, refl, sym, subst, append_assoc, arith, codes, decimal, inl, inr}
 use Rattle.std.proofs.lemmas.Bool.{cases_Bool}
 use Rattle.std.proofs.lemmas.List.Elements.{All-head, All-tail}
-use Rattle.fj_theory.specs.Plain.{PlainPolynomial}
-use Rattle.fj_text.specs.Word.{is_word_byte, IsWord}
+use Rattle.fj_text.specs.Word.{IsWord}
 use Rattle.fj_text.specs.Token.{Word, Number, Sign}
-use Rattle.fj_text.specs.Printed.{joined, or_zero, power_bytes, powers_bytes, factors, term_bytes, polynomial_bytes}
+use Rattle.fj_text.specs.Printed.{joined, or_zero, power_bytes, powers_bytes, factors, term_bytes}
 use Rattle.fj_text.proofs.PrintedTokens.{Spelled, EndsPiece, Lexed, lexed_none, lexed_append, lexed_sign, lexed_word, lexed_digits, lexed_number, IsSign, star_sign, plus_sign, caret_sign}
 
 -- The tokens of pieces, with a sign between each two.
@@ -69,7 +68,7 @@ lexed_power name exponent word low =
     elim (cases_Bool (eqb exponent 1)) [
       | inl one ↦ rw one (lexed_word name word)
       | inr other ↦ rw other (subst (λ bytes. Lexed bytes ((Word name, length name) ∷ (Sign 94, 1) ∷ number_tokens exponent)) (sym (append_assoc name (codes "^") (decimal exponent)))
-        (lexed_append (lexed_word name word) (lexed_sign caret_sign (lexed_number exponent low)) (λ rest ends. refl)))
+          (lexed_append (lexed_word name word) (lexed_sign caret_sign (lexed_number exponent low)) (λ rest ends. refl)))
     ]
 
 lexed_powers : (names : List (List ℕ)) (exponents : List ℕ) → All IsWord names → All (λ e. e < 2 ^ 32) exponents → AreLexed (powers_bytes names exponents) (powers_tokens names exponents)

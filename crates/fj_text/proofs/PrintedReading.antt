@@ -1,6 +1,6 @@
 -- The rules of expressions on the tokens of printed terms.
-use Rattle.std.proofs.Common.{◌≡◌, ℕ, zero, suc, ◌+◌, ◌%◌, ◌^◌, ◌<◌, ◌≤◌, Bool, true, false, cond, leb, ltb, eqb, List, [], ◌∷◌, ◌++◌, length, All, Option, Some, None, Ok, refl, sym, ap, ap₂, subst, ◌∙◌, append_assoc, arith, decimal, inl, inr}
-use Rattle.std.specs.Option.{option_map, option_map_or}
+use Rattle.std.proofs.Common.{◌≡◌, ℕ, zero, suc, ◌+◌, ◌%◌, ◌^◌, ◌<◌, ◌≤◌, true, false, leb, ltb, eqb, List, [], ◌∷◌, ◌++◌, length, Option, Some, None, Ok, refl, sym, ap, subst, ◌∙◌, append_assoc, arith, decimal, inl, inr}
+use Rattle.std.specs.Option.{option_map_or}
 use Rattle.std.proofs.lemmas.Bool.{cases_Bool, lt-leb, le-ltb, eq-eqb, eqb-true}
 use Rattle.std.proofs.lemmas.List.{length-append}
 use Rattle.std.proofs.lemmas.Option.{same_Some}
@@ -10,9 +10,9 @@ use Rattle.fj_theory.specs.PointIdeal.{variable_exponents}
 use Rattle.fj_theory.specs.Polynomial.{Polynomial, product, sum, term}
 use Rattle.fj_text.specs.declared.scope.Meaning.{Meaning}
 use Rattle.fj_text.specs.declared.scope.Meaning.TheVariants as meanings
-use Rattle.fj_text.specs.Token.{Token, Word, Number, Sign, Placed, star, caret, plus, minus}
+use Rattle.fj_text.specs.Token.{Word, Number, Sign, Placed, star, caret, plus, minus}
 use Rattle.fj_text.specs.State.{State, ◌>>=◌, after_sign, next}
-use Rattle.fj_text.specs.Expression.{Answer, within, formed, power_within, repeat, constant, variable, exponent_of, atom, atom_of, factor, times_factor, term_at, first_term, plus_term, sum_at}
+use Rattle.fj_text.specs.Expression.{Answer, within, power_within, repeat, constant, variable, exponent_of, atom, atom_of, factor, times_factor, term_at, first_term, plus_term, sum_at}
 use Rattle.fj_text.proofs.PrintedTokens.{Spelled, end_column, placed_from, end_column-append, placed_from-append}
 use Rattle.fj_text.proofs.PrintedPieces.{behind_signs, parted, number_tokens, power_tokens}
 
@@ -149,22 +149,22 @@ module _ (F : Field) (meaning : List ℕ → Meaning) (inside : State → Answer
   power_factor name i e g known low power =
       elim (cases_Bool (eqb e 1)) [
         | inl one ↦ rw one (
-          let same : term 1 (variable_exponents i) ≡ g = same_Some _ _ (ap (power_within F (term 1 (variable_exponents i))) (sym (eqb-true e 1 one)) ∙ power) in
-          record {
-            some = omega arith;
-            reads = λ column start rest ends. record { start = column; is = bare_factor _ _ _ (read_word name (length name) i column start rest known) (ends column _) ∙ ap (λ f. Ok (f, standing rest column (column + length name))) same };
-            plain = λ column rest. lacks_at_word minus name _ _ rest;
-          })
+            let same : term 1 (variable_exponents i) ≡ g = same_Some _ _ (ap (power_within F (term 1 (variable_exponents i))) (sym (eqb-true e 1 one)) ∙ power) in
+            record {
+              some = omega arith;
+              reads = λ column start rest ends. record { start = column; is = bare_factor _ _ _ (read_word name (length name) i column start rest known) (ends column _) ∙ ap (λ f. Ok (f, standing rest column (column + length name))) same };
+              plain = λ column rest. lacks_at_word minus name _ _ rest;
+            })
         | inr other ↦ rw other (
-          record {
-            some = omega arith;
-            reads = λ column start rest ends. record {
-              start = column + length name + 1;
-              is = raised_factor (term 1 (variable_exponents i)) g _ e (length (decimal e)) column (column + length name) rest low power
-                  (read_word name (length name) i column start (placed_from (column + length name) ((Sign 94, 1) ∷ number_tokens e) ++ rest) known);
-            };
-            plain = λ column rest. lacks_at_word minus name _ _ _;
-          })
+            record {
+              some = omega arith;
+              reads = λ column start rest ends. record {
+                start = column + length name + 1;
+                is = raised_factor (term 1 (variable_exponents i)) g _ e (length (decimal e)) column (column + length name) rest low power
+                    (read_word name (length name) i column start (placed_from (column + length name) ((Sign 94, 1) ∷ number_tokens e) ++ rest) known);
+              };
+              plain = λ column rest. lacks_at_word minus name _ _ _;
+            })
       ]
 
   -- ---- terms
@@ -214,7 +214,7 @@ module _ (F : Field) (meaning : List ℕ → Meaning) (inside : State → Answer
             let left : List Placed = placed_from behind later ++ rest in
             let one = first.reads column start left (ends_later (times_factor F meaning inside) 42 (LacksSign caret) (λ s e more. lacks_at_sign caret 42 s e more refl) pieces rest ends.lacks_caret behind) in
             let all = repeated (times_factor F meaning inside) 42 (LacksSign caret) (λ s e more. lacks_at_sign caret 42 s e more refl) (length left) f pieces g turned (pieces_below 42 behind pieces rest) rest ends.lacks_caret
-                (λ s e. no_factor g (standing rest s e) (ends.lacks_star s e)) behind one.start in
+            (λ s e. no_factor g (standing rest s e) (ends.lacks_star s e)) behind one.start in
             record {
               start = all.start;
               is = ap (λ ts. term_at F meaning inside (standing ts start column)) (split column tokens later rest) ∙ then_factors _ _ f one.is ∙ all.is ∙ ap (λ e. Ok (g, standing rest all.start e)) (sym (end_column-append column tokens later));

@@ -1,18 +1,17 @@
 -- The tokens of printed texts.
-use Rattle.std.proofs.Common.{◌≡◌, ℕ, zero, suc, ◌+◌, ◌-◌, ◌^◌, ◌<◌, ◌≤◌, Bool, true, false, ◌&&◌, ◌||◌, cond, eqb, leb, List, [], ◌∷◌, ◌++◌, length, map, drop, take, flat_map, get_or, All, min, Some, IsTrue, refl, sym, ap, ap₂, subst, ◌∙◌, append_assoc, add_assoc, add-zero, arith, codes, decimal, inl, inr, ◌⊎◌}
-use Rattle.std.specs.Char.{is_ascii_digit, digit_value}
+use Rattle.std.proofs.Common.{◌≡◌, ℕ, zero, suc, ◌+◌, ◌-◌, ◌^◌, ◌<◌, ◌≤◌, Bool, true, false, ◌||◌, eqb, leb, List, [], ◌∷◌, ◌++◌, length, get_or, All, min, Some, refl, sym, ap, ap₂, ◌∙◌, append_assoc, add_assoc, add-zero, arith, decimal, inl, inr, ◌⊎◌}
+use Rattle.std.specs.Char.{is_ascii_digit}
 use Rattle.std.specs.Int.{is_in_range}
 use Rattle.std.specs.List.{prefix_len}
-use Rattle.std.specs.Str.Parse.{AllDigits, digits_value}
-use Rattle.std.proofs.Math.Seq.{take-append_seam, drop-append_seam}
+use Rattle.std.specs.Str.Parse.{AllDigits}
+use Rattle.std.proofs.Math.Seq.{take-append_seam}
 use Rattle.std.proofs.lemmas.Bool.{cases_Bool, and_from, or_cases, le-leb, lt-leb, eqb-true, ne_eqb, true≢false}
 use Rattle.std.proofs.lemmas.Fmt.{decimal_is_IsNumeral}
 use Rattle.std.proofs.lemmas.Str.Parse.{digit_from_value}
 use Rattle.std.proofs.lemmas.List.{length-append}
 use Rattle.std.proofs.lemmas.List.Elements.{All-nil, All-cons, All-head, All-tail}
 use Rattle.fj_text.specs.Word.{is_word_start, is_word_byte, IsWord}
-use Rattle.fj_text.specs.Token.{Token, Word, Number, Sign, BadByte, Placed, is_blank, number_shown, token_at, tokens_from}
-use Rattle.fj_text.specs.Printed.{joined}
+use Rattle.fj_text.specs.Token.{Token, Word, Number, Sign, Placed, is_blank, number_shown, token_at, tokens_from}
 
 -- A token and its length.
 abbrev pub Spelled : Type 0

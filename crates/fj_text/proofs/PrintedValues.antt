@@ -1,26 +1,23 @@
 -- The values that printed terms and polynomials are read as.
-use Rattle.std.proofs.Common.{◌≡◌, ◌≢◌, ℕ, zero, suc, ◌+◌, ◌*◌, ◌%◌, ◌^◌, ◌<◌, ◌≤◌, Bool, true, false, cond, eqb, List, [], ◌∷◌, ◌++◌, length, map, replicate, set, get_or, All, AllPairs, Option, Some, Ok, nat_cmp, refl, sym, ap, ap₂, subst, ◌∙◌, append_assoc, append-nil, arith, decimal, inl, inr}
+use Rattle.std.proofs.Common.{◌≡◌, ℕ, zero, suc, ◌+◌, ◌*◌, ◌%◌, ◌<◌, ◌≤◌, false, eqb, List, [], ◌∷◌, ◌++◌, length, map, replicate, set, get_or, refl, sym, ap, ap₂, subst, ◌∙◌, arith, decimal, inl, inr}
 use Rattle.std.specs.Prelude.{sum as sum_of}
-use Rattle.std.specs.FinMap.{empty, from_entries}
-use Rattle.std.specs.Cmp.Lexicographic.{slice_cmp}
 use Rattle.std.proofs.Math.Nat.{mod-eq_of_lt}
 use Rattle.std.proofs.lemmas.Bool.{cases_Bool, eqb-true, ne_eqb}
 use Rattle.std.proofs.lemmas.List.{length-append, length-replicate, length-set}
-use Rattle.std.proofs.lemmas.List.Elements.{All-nil, All-cons, All-head, All-tail}
 use Rattle.fj_coeff.specs.Field.{Field, IsField}
 use Rattle.fj_coeff.specs.PrimeFieldLaws.{prime_bounds}
 use Rattle.fj_theory.specs.Exponents.{IsExponents, origin, plus, times, total}
 use Rattle.fj_theory.specs.PointIdeal.{variable_exponents}
-use Rattle.fj_theory.specs.Polynomial.{Polynomial, IsPolynomial, IsTerm, term}
-use Rattle.fj_theory.proofs.Exponents.{cons_same, IsExponents-origin, IsExponents-plus, IsExponents-times, origin_plus, plus_assoc, plus_zeros, total-cons, total-plus_exponents, total-times, total_origin}
+use Rattle.fj_theory.specs.Polynomial.{Polynomial, IsTerm, term}
+use Rattle.fj_theory.proofs.Exponents.{cons_same, IsExponents-origin, IsExponents-plus, IsExponents-times, origin_plus, plus_assoc, total-cons, total-plus_exponents, total-times, total_origin}
 use Rattle.fj_theory.proofs.Field.{one_below}
 use Rattle.fj_text.specs.declared.scope.Meaning.{Meaning}
 use Rattle.fj_text.specs.declared.scope.Meaning.TheVariants as meanings
-use Rattle.fj_text.specs.Expression.{Answer, plus_term, times_factor, within}
+use Rattle.fj_text.specs.Expression.{Answer, times_factor}
 use Rattle.fj_text.specs.State.{State}
 use Rattle.fj_text.proofs.PrintedTokens.{Spelled}
-use Rattle.fj_text.proofs.PrintedPieces.{factor_tokens, number_tokens, parted, power_tokens, powers_tokens, term_tokens}
-use Rattle.fj_text.proofs.PrintedReading.{AreTurned, EndsTerm, IsFactor, IsReadTerm, LacksSign, factors_term, number_factor, plus_turned, power_factor, times_turned}
+use Rattle.fj_text.proofs.PrintedPieces.{factor_tokens, number_tokens, parted, powers_tokens, term_tokens}
+use Rattle.fj_text.proofs.PrintedReading.{AreTurned, IsFactor, IsReadTerm, LacksSign, factors_term, number_factor, power_factor, times_turned}
 use Rattle.fj_text.proofs.SmallPolynomials.{power_within_small, product_within}
 
 -- ---- exponents
@@ -160,14 +157,14 @@ module _ {F : Field} (L : IsField F) (meaning : List ℕ → Meaning) (inside : 
       let bounds = prime_bounds F.characteristic L.prime in
       elim (cases_Bool (eqb rank 1)) [
         | inl one ↦ rw one (
-          let later : AreFactors b powers a = subst (λ c. AreFactors c powers a) (origin_plus (h.1).exponents) h.2 in
-          let turned = factors_turned 1 (omega arith) (one_below L) b (h.1).exponents powers a later in
-          factors_term F meaning inside power powers (term 1 b) (term rank a) (h.1).factor
-          (subst (λ r. AreTurned (times_factor F meaning inside) 42 (LacksSign 94) (term 1 b) powers (term r a)) (sym (eqb-true rank 1 one)) turned))
+            let later : AreFactors b powers a = subst (λ c. AreFactors c powers a) (origin_plus (h.1).exponents) h.2 in
+            let turned = factors_turned 1 (omega arith) (one_below L) b (h.1).exponents powers a later in
+            factors_term F meaning inside power powers (term 1 b) (term rank a) (h.1).factor
+            (subst (λ r. AreTurned (times_factor F meaning inside) 42 (LacksSign 94) (term 1 b) powers (term r a)) (sym (eqb-true rank 1 one)) turned))
         | inr other ↦ rw other (
-          let turned = factors_turned rank nonzero fits origin IsExponents-origin (power ∷ powers) a h in
-          factors_term F meaning inside (number_tokens rank) (power ∷ powers) (term (rank % F.characteristic) origin) (term rank a) (number_factor F meaning inside rank (length (decimal rank)) (omega (arith, bounds.1)))
-          (subst (λ r. AreTurned (times_factor F meaning inside) 42 (LacksSign 94) (term r origin) (power ∷ powers) (term rank a)) (sym (mod-eq_of_lt below)) turned))
+            let turned = factors_turned rank nonzero fits origin IsExponents-origin (power ∷ powers) a h in
+            factors_term F meaning inside (number_tokens rank) (power ∷ powers) (term (rank % F.characteristic) origin) (term rank a) (number_factor F meaning inside rank (length (decimal rank)) (omega (arith, bounds.1)))
+            (subst (λ r. AreTurned (times_factor F meaning inside) 42 (LacksSign 94) (term r origin) (power ∷ powers) (term rank a)) (sym (mod-eq_of_lt below)) turned))
       ]
 
   -- A term in the variables with these names, of degree at most 1,000 and with a rank below the characteristic.

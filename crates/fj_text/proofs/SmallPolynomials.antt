@@ -1,21 +1,21 @@
 -- Polynomials that are small enough to be read, and how they are formed.
-use Rattle.std.proofs.Common.{◌≡◌, ℕ, zero, suc, ◌+◌, ◌*◌, ◌<◌, ◌≤◌, Bool, true, false, ◌||◌, cond, ltb, List, [], ◌∷◌, ◌++◌, length, All, Option, Some, None, unwrap_or, nat_cmp, refl, sym, ap, ap₂, subst, ◌∙◌, arith, inl, inr}
+use Rattle.std.proofs.Common.{◌≡◌, ℕ, zero, suc, ◌+◌, ◌*◌, ◌<◌, ◌≤◌, Bool, true, false, cond, ltb, List, [], ◌∷◌, ◌++◌, length, All, Option, Some, None, unwrap_or, nat_cmp, refl, sym, ap, ◌∙◌, arith, inl, inr}
 use Rattle.std.specs.Cmp.Lexicographic.{slice_cmp}
-use Rattle.std.specs.FinMap.{empty, find, from_entries, get, get-from_entries, contains_key, len, len-empty, len-insert}
+use Rattle.std.specs.FinMap.{find, from_entries, get-from_entries, contains_key, len, len-empty, len-insert}
 use Rattle.std.specs.Option.{option_and_then}
 use Rattle.std.proofs.lemmas.Bool.{cases_Bool, le-ltb, true≢false}
 use Rattle.std.proofs.lemmas.Cmp.{nat_list_cmp_total}
 use Rattle.std.proofs.lemmas.List.Elements.{All-nil, All-cons, All-head, All-tail, All-append}
 use Rattle.fj_coeff.specs.Field.{Field, IsField}
-use Rattle.fj_theory.specs.Exponents.{IsExponents, plus, times, total, origin}
+use Rattle.fj_theory.specs.Exponents.{IsExponents, plus, times, total}
 use Rattle.fj_theory.specs.Polynomial.{Polynomial, IsPolynomial, IsTerm, coefficient, degree, product, sum, term}
 use Rattle.fj_theory.proofs.Degree.{degree_attained}
 use Rattle.fj_theory.proofs.Exponents.{IsExponents-plus, IsExponents-times, plus_comm, times_one, times_suc, total-times}
 use Rattle.fj_theory.proofs.Field.{one_below, zero_below}
 use Rattle.fj_theory.proofs.FormalSum.{same, same_true, same_false, same_itself}
 use Rattle.fj_theory.proofs.Monomial.{from_entries-cons, product_terms}
-use Rattle.fj_theory.proofs.Polynomial.{IsPolynomial-empty, IsPolynomial-sum, IsPolynomial-term, coefficient-empty, coefficient-sum, coefficient-term, coefficient_below, get-coefficient, polynomial_equal}
-use Rattle.fj_theory.proofs.PolynomialRing.{sum_comm, sum_empty}
+use Rattle.fj_theory.proofs.Polynomial.{IsPolynomial-sum, IsPolynomial-term, coefficient-empty, coefficient-sum, coefficient-term, coefficient_below, get-coefficient, polynomial_equal}
+use Rattle.fj_theory.proofs.PolynomialRing.{sum_empty}
 use Rattle.fj_theory.proofs.Terms.{Apart, IsPolynomial-from_entries, coefficient-from_entries, coefficient-from_entries_push, find_All, find_none}
 use Rattle.fj_text.specs.Expression.{is_large, within, power_within}
 
