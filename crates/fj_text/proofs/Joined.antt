@@ -1,5 +1,5 @@
 -- Pieces joined by a text, one more at a time, as loops print them.
-use Rattle.std.proofs.Common.{◌≡◌, ℕ, zero, suc, ◌+◌, ◌<◌, ◌≤◌, true, false, Bool, cond, eqb, List, [], ◌∷◌, ◌++◌, length, map, take, drop, Some, refl, sym, ap, ◌∙◌, append_assoc, append-nil, add-one, arith}
+use Rattle.std.proofs.Common.{◌≡◌, ℕ, zero, suc, ◌+◌, ◌<◌, ◌≤◌, true, false, Bool, cond, eqb, List, [], ◌∷◌, ◌++◌, length, map, take, drop, Some, refl, sym, ap, ◌∙◌, append_assoc, append-nil, add-one, arith, Result, Ok, Err, OnOk}
 use Rattle.std.specs.List.{flat_map, slice_get}
 use Rattle.std.proofs.lemmas.Bool.{ne_eqb}
 use Rattle.std.proofs.lemmas.List.{map_push, take_all}
@@ -74,3 +74,8 @@ pieces_end between f (x ∷ xs) i old new some all h = h ∙ ap (λ ys. old ++ j
 pub no_piece : {X : Type 0} (between : List ℕ) (f : X → List ℕ) (xs : List X) → length xs ≡ 0 → joined between (or_zero (map f xs)) ≡ 48 ∷ []
 no_piece between f [] none = refl
 no_piece between f (x ∷ xs) none = absurd (omega arith)
+
+-- What follows where a call did not fail.
+pub on_ok : {T E : Type 0} {P Q : Type 0} (r : Result T E) → (P → Q) → OnOk r P → OnOk r Q
+on_ok (Ok x) f p = f p
+on_ok (Err e) f p = tt

@@ -64,8 +64,7 @@ fn push_members(out: &mut Vec<u8>, l: &PlainList, vars: &Names) -> Result<(), Al
         (out.new.items ≡ out.old.items ++ joined (codes ", ") (or_zero (map (polynomial_bytes vars.now) l.now))) }
 {
     if l.len() == 0 {
-        out.push(b'0')?;
-        return Ok(());
+        return push_zero(out);
     }
     for place in 0..l.len() {
         push_between(out, b", ", place)?;
@@ -79,13 +78,20 @@ fn push_poly(out: &mut Vec<u8>, h: &PlainPoly, vars: &Names) -> Result<(), Alloc
     ensures { OnOk result (out.new.items ≡ out.old.items ++ polynomial_bytes vars.now h.now) }
 {
     if h.len() == 0 {
-        out.push(b'0')?;
-        return Ok(());
+        return push_zero(out);
     }
     for place in 0..h.len() {
         push_between(out, b"+", place)?;
         push_term(out, h.get(place), vars)?;
     }
+    Ok(())
+}
+
+/// Appends `0`, which is written where there is no term and no member.
+fn push_zero(out: &mut Vec<u8>) -> Result<(), AllocError>
+    ensures { OnOk result (out.new.items ≡ out.old.items ++ codes "0") }
+{
+    out.push(b'0')?;
     Ok(())
 }
 
