@@ -5,3 +5,4 @@ pub mod Seen
 pub mod Expression
 pub mod Reading
 pub mod Variable
+pub mod Grammar

@@ -3,6 +3,7 @@
 
 mod expression;
 mod fault;
+pub mod laws;
 mod names;
 mod read;
 mod reader;
