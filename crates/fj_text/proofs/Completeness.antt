@@ -1,5 +1,5 @@
 -- What is in the grammar is read.
-use Rattle.std.proofs.Common.{◌≡◌, ◌≢◌, ℕ, zero, suc, ◌+◌, ◌%◌, ◌^◌, ◌<◌, ◌≤◌, Bool, true, false, cond, leb, ltb, eqb, List, [], ◌∷◌, ◌++◌, length, map, Option, Some, None, Result, Ok, Err, refl, sym, ap, ap₂, ◌∙◌, subst, arith, rules, append_assoc}
+use Rattle.std.proofs.Common.{◌≡◌, ◌≢◌, ℕ, suc, ◌%◌, ◌^◌, ◌<◌, ◌≤◌, true, false, cond, leb, ltb, eqb, List, [], ◌∷◌, ◌++◌, length, map, Some, None, Ok, Err, refl, sym, ap, ap₂, ◌∙◌, subst, arith, rules, append_assoc}
 use Rattle.std.specs.Option.{option_and_then, option_map, option_map_or}
 use Rattle.std.proofs.lemmas.Bool.{le-ltb, lt-leb, ne_eqb}
 use Rattle.std.proofs.lemmas.List.{length-append, length-map}
@@ -8,10 +8,9 @@ use Rattle.fj_theory.specs.Exponents.{origin}
 use Rattle.fj_theory.specs.PointIdeal.{variable_exponents}
 use Rattle.fj_theory.specs.Polynomial.{Polynomial, negation, power, product, sum, term}
 use Rattle.fj_text.specs.declared.fault.Cause.TheVariants as causes
-use Rattle.fj_text.specs.declared.fault.Fault.{Fault}
 use Rattle.fj_text.specs.declared.scope.Meaning.{Meaning}
 use Rattle.fj_text.specs.declared.scope.Meaning.TheVariants as meanings
-use Rattle.fj_text.specs.Expression.{Answer, atom, atom_of, constant, exponent_of, expression, factor, first_term, formed, parenthesised, plus_term, power_within, repeat, sum_at, term_at, times_factor, variable, within}
+use Rattle.fj_text.specs.Expression.{Answer, atom, atom_of, constant, exponent_of, expression, factor, first_term, formed, parenthesised, plus_term, power_within, sum_at, term_at, times_factor, variable, within}
 use Rattle.fj_text.specs.Grammar as grammar
 use Rattle.fj_text.specs.Grammar.{AreBehind, IsAtom, IsExpression, IsFactor, IsSmall, IsTerm, tokens_left}
 use Rattle.fj_text.specs.State.{State, ◌>>=◌, after, after_sign, fault_at, is_the_sign, next, unexpected}

@@ -1,5 +1,5 @@
 -- Values of the grammar of expressions.
-use Rattle.std.proofs.Common.{◌≡◌, ℕ, zero, suc, ◌+◌, ◌%◌, ◌^◌, ◌<◌, ◌≤◌, Bool, true, false, cond, ltb, leb, ◌||◌, List, [], ◌∷◌, ◌++◌, length, map, set, Option, Some, None, Result, Ok, Err, refl, sym, ap, ◌∙◌, subst, arith, unwrap_or, inl, inr, ◌⊎◌, ⊎_elim}
+use Rattle.std.proofs.Common.{◌≡◌, ℕ, zero, suc, ◌%◌, ◌<◌, ◌≤◌, Bool, true, false, cond, ltb, ◌||◌, List, Option, Some, None, refl, sym, ap, ◌∙◌, subst, arith, unwrap_or, inl, inr, ◌⊎◌, ⊎_elim}
 use Rattle.std.specs.FinMap.{len}
 use Rattle.std.specs.Option.{option_and_then}
 use Rattle.std.proofs.lemmas.List.{length-set}
@@ -9,7 +9,7 @@ use Rattle.fj_coeff.specs.Field.{Field, IsField}
 use Rattle.fj_coeff.specs.PrimeFieldLaws.{prime_bounds}
 use Rattle.fj_theory.specs.Exponents.{IsExponents, origin}
 use Rattle.fj_theory.specs.PointIdeal.{variable_exponents}
-use Rattle.fj_theory.specs.Polynomial.{Polynomial, IsPolynomial, degree, negation, power, product, sum, term}
+use Rattle.fj_theory.specs.Polynomial.{Polynomial, IsPolynomial, degree, power, product}
 use Rattle.fj_theory.proofs.Exponents.{IsExponents-origin}
 use Rattle.fj_theory.proofs.Field.{one_below}
 use Rattle.fj_theory.proofs.Polynomial.{IsPolynomial-sum, IsPolynomial-term}

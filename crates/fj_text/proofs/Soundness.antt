@@ -1,12 +1,12 @@
 -- What is read is in the grammar.
-use Rattle.std.proofs.Common.{◌≡◌, ℕ, zero, suc, ◌%◌, ◌^◌, ◌<◌, ◌≤◌, Bool, true, false, cond, leb, ltb, eqb, List, [], ◌∷◌, ◌++◌, length, map, Option, Some, None, Result, Ok, Err, refl, sym, ap, ap₂, ◌∙◌, subst, arith, append_assoc}
-use Rattle.std.specs.Option.{option_and_then, option_map, option_map_or}
+use Rattle.std.proofs.Common.{◌≡◌, ℕ, zero, suc, ◌%◌, ◌^◌, ◌≤◌, Bool, true, false, cond, leb, ltb, eqb, List, [], ◌∷◌, ◌++◌, length, map, Option, Some, None, Result, Ok, Err, refl, sym, ap, ap₂, ◌∙◌, subst, append_assoc}
+use Rattle.std.specs.Option.{option_map, option_map_or}
 use Rattle.std.proofs.lemmas.Bool.{eqb-true, leb-false, ltb-false}
 use Rattle.std.proofs.lemmas.List.{append-nil}
 use Rattle.fj_coeff.specs.Field.{Field, IsField}
 use Rattle.fj_theory.specs.Exponents.{origin}
 use Rattle.fj_theory.specs.PointIdeal.{variable_exponents}
-use Rattle.fj_theory.specs.Polynomial.{Polynomial, IsPolynomial, negation, power, product, sum, term}
+use Rattle.fj_theory.specs.Polynomial.{Polynomial, negation, product, sum, term}
 use Rattle.fj_text.specs.declared.fault.Cause.TheVariants as causes
 use Rattle.fj_text.specs.declared.fault.Fault.{Fault}
 use Rattle.fj_text.specs.declared.scope.Meaning.{Meaning}
@@ -120,8 +120,6 @@ module _ {F : Field} (L : IsField F) (meaning : List ℕ → Meaning) where
       → (us : List Token) × (tokens_left s ≡ us ++ Sign closing ∷ tokens_left t) × IsAtom F meaning depth (Sign opening ∷ us ++ Sign closing ∷ []) f
 
   module _ (depth : ℕ) (H : InsideSound depth) where
-
-
     constant-sound : (n : ℕ) (u t : State) (f : Polynomial) → constant F n u ≡ Ok (f, t) → (ts : List Token) × (Number n ∷ tokens_left u ≡ ts ++ tokens_left t) × IsAtom F meaning depth ts f
     unfolding constant
     constant-sound n u t f e = by (is_wide n) refl e
