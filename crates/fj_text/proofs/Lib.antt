@@ -15,3 +15,6 @@ pub mod Readers
 pub mod Values
 pub mod Repeats
 pub mod Parentheses
+pub mod Grammars
+pub mod Soundness
+pub mod Completeness
