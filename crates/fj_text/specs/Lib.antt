@@ -1,4 +1,5 @@
 pub mod Word
+pub mod Printed
 pub mod Token
 pub mod State
 pub mod Seen
@@ -6,3 +7,4 @@ pub mod Expression
 pub mod Reading
 pub mod Variable
 pub mod Grammar
+pub mod PrintedLaws
