@@ -12,7 +12,7 @@ use Rattle.fj_text.specs.declared.scope.Meaning.{Meaning}
 use Rattle.fj_text.specs.declared.scope.Meaning.TheVariants as meanings
 use Rattle.fj_text.specs.Expression.{Answer, atom, atom_of, constant, exponent_of, expression, factor, first_term, formed, parenthesised, plus_term, power_within, sum_at, term_at, times_factor, variable, within}
 use Rattle.fj_text.specs.Grammar as grammar
-use Rattle.fj_text.specs.Grammar.{AreBehind, IsAtom, IsExpression, IsFactor, IsSmall, IsTerm, tokens_left}
+use Rattle.fj_text.specs.Grammar.{AreBehind, IsAtom, IsExpression, IsFactor, IsWithinLimits, IsTerm, tokens_left}
 use Rattle.fj_text.specs.State.{State, ◌>>=◌, after, after_sign, fault_at, is_the_sign, next, unexpected}
 use Rattle.fj_text.specs.Token.{Token, Word, Number, Sign, BadByte, Placed, star, caret, plus, minus, opening, closing}
 use Rattle.fj_text.proofs.Grammars.{IsPolynomial-atom, small-power, small-within}
@@ -110,19 +110,19 @@ module _ {F : Field} (L : IsField F) (meaning : List ℕ → Meaning) where
       (ap₂ (λ o q. option_map_or (λ u. Some (term_at F meaning inside u >>= λ h. formed (within (sum F f h.0)) h.1)) o (option_map (λ u. term_at F meaning inside u >>= λ h. formed (within (sum F f (negation F h.0))) h.1) q)) (sign-not plus t rest e n) (sign-not minus t rest e m))
 
   -- a turn of a product and of a sum
-  times-turn : (inside : State → Answer Polynomial) (f g : Polynomial) (t u v : State) → after_sign star t ≡ Some u → factor F meaning inside u ≡ Ok (g, v) → IsSmall (product F f g) → times_factor F meaning inside f t ≡ Some (Ok (product F f g, v))
+  times-turn : (inside : State → Answer Polynomial) (f g : Polynomial) (t u v : State) → after_sign star t ≡ Some u → factor F meaning inside u ≡ Ok (g, v) → IsWithinLimits (product F f g) → times_factor F meaning inside f t ≡ Some (Ok (product F f g, v))
   unfolding times_factor
   times-turn inside f g t u v e h small =
       ap (option_map (λ w. factor F meaning inside w >>= λ r. formed (within (product F f r.0)) r.1)) e
       ∙ ap (λ a. Some (a >>= λ r. formed (within (product F f r.0)) r.1)) h ∙ ap (λ o. Some (formed o v)) (small-within (product F f g) small)
 
-  plus-turn : (inside : State → Answer Polynomial) (f g : Polynomial) (t u v : State) → after_sign plus t ≡ Some u → term_at F meaning inside u ≡ Ok (g, v) → IsSmall (sum F f g) → plus_term F meaning inside f t ≡ Some (Ok (sum F f g, v))
+  plus-turn : (inside : State → Answer Polynomial) (f g : Polynomial) (t u v : State) → after_sign plus t ≡ Some u → term_at F meaning inside u ≡ Ok (g, v) → IsWithinLimits (sum F f g) → plus_term F meaning inside f t ≡ Some (Ok (sum F f g, v))
   unfolding plus_term
   plus-turn inside f g t u v e h small =
       ap (λ o. option_map_or (λ w. Some (term_at F meaning inside w >>= λ r. formed (within (sum F f r.0)) r.1)) o (option_map (λ w. term_at F meaning inside w >>= λ r. formed (within (sum F f (negation F r.0))) r.1) (after_sign minus t))) e
       ∙ ap (λ a. Some (a >>= λ r. formed (within (sum F f r.0)) r.1)) h ∙ ap (λ o. Some (formed o v)) (small-within (sum F f g) small)
 
-  minus-turn : (inside : State → Answer Polynomial) (f g : Polynomial) (t u v : State) → after_sign plus t ≡ None → after_sign minus t ≡ Some u → term_at F meaning inside u ≡ Ok (g, v) → IsSmall (sum F f (negation F g)) → plus_term F meaning inside f t ≡ Some (Ok (sum F f (negation F g), v))
+  minus-turn : (inside : State → Answer Polynomial) (f g : Polynomial) (t u v : State) → after_sign plus t ≡ None → after_sign minus t ≡ Some u → term_at F meaning inside u ≡ Ok (g, v) → IsWithinLimits (sum F f (negation F g)) → plus_term F meaning inside f t ≡ Some (Ok (sum F f (negation F g), v))
   unfolding plus_term
   minus-turn inside f g t u v none e h small =
       ap₂ (λ o q. option_map_or (λ w. Some (term_at F meaning inside w >>= λ r. formed (within (sum F f r.0)) r.1)) o (option_map (λ w. term_at F meaning inside w >>= λ r. formed (within (sum F f (negation F r.0))) r.1) q)) none e

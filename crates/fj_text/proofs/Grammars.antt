@@ -18,7 +18,7 @@ use Rattle.fj_theory.proofs.Product.{IsPolynomial-product}
 use Rattle.fj_text.specs.declared.scope.Meaning.{Meaning}
 use Rattle.fj_text.specs.Expression.{is_large, power_within, within}
 use Rattle.fj_text.specs.Grammar as grammar
-use Rattle.fj_text.specs.Grammar.{IsAtom, IsExpression, IsFactor, IsSmall, IsTerm}
+use Rattle.fj_text.specs.Grammar.{IsAtom, IsExpression, IsFactor, IsWithinLimits, IsTerm}
 use Rattle.fj_text.specs.Token.{Token}
 
 last_or : (i k : ℕ) → i ≤ suc k → (i ≡ suc k) ⊎ (i ≤ k)
@@ -29,7 +29,7 @@ neither true b e = absurd cc
 neither false b e = (refl, e)
 
 -- the values that are not large
-pub small-within : (f : Polynomial) → IsSmall f → within f ≡ Some f
+pub small-within : (f : Polynomial) → IsWithinLimits f → within f ≡ Some f
 unfolding is_large
 small-within f h =
     let few : ltb 1000 (len f) ≡ false = le-ltb _ _ h.few in
@@ -39,11 +39,11 @@ small-within f h =
 some_same : {A : Type 0} (x y : A) → ◌≡◌ {A = Option A} (Some x) (Some y) → x ≡ y
 some_same x y e = cc
 
-pub within-small : (f g : Polynomial) → within f ≡ Some g → (f ≡ g) × IsSmall f
+pub within-small : (f g : Polynomial) → within f ≡ Some g → (f ≡ g) × IsWithinLimits f
 unfolding is_large
 within-small f g = by (ltb 1000 (len f) || ltb 1000 (unwrap_or (degree f) 0)) refl
   where
-    by : (b : Bool) → (ltb 1000 (len f) || ltb 1000 (unwrap_or (degree f) 0)) ≡ b → cond b None (Some f) ≡ Some g → (f ≡ g) × IsSmall f
+    by : (b : Bool) → (ltb 1000 (len f) || ltb 1000 (unwrap_or (degree f) 0)) ≡ b → cond b None (Some f) ≡ Some g → (f ≡ g) × IsWithinLimits f
     by true e h = absurd cc
     by false e h = let both = neither _ _ e in (some_same f g h, record { few = ltb-false _ _ both.0; low = ltb-false _ _ both.1 })
 
@@ -53,24 +53,24 @@ module _ {F : Field} (L : IsField F) where
     more-is k = product_comm L (IsPolynomial-power L P (suc k)) P ∙ sym (power_suc L P (suc k))
 
     -- the products for a power are its powers
-    pub power-small : (k : ℕ) (g : Polynomial) → power_within F f k ≡ Some g → (g ≡ power F f k) × ((i : ℕ) → 2 ≤ i → i ≤ k → IsSmall (power F f i))
+    pub power-small : (k : ℕ) (g : Polynomial) → power_within F f k ≡ Some g → (g ≡ power F f k) × ((i : ℕ) → 2 ≤ i → i ≤ k → IsWithinLimits (power F f i))
     unfolding power_within
     power-small zero g e = (sym (some_same _ _ e) ∙ sym (power_zero L P), λ i h k. absurd (omega arith))
     power-small (suc zero) g e = (sym (some_same _ _ e) ∙ sym (power_first L P), λ i h k. absurd (omega arith))
     power-small (suc (suc k)) g e = by (power_within F f (suc k)) refl (λ h. power-small (suc k) h) e
       where
-        by : (o : Option Polynomial) → power_within F f (suc k) ≡ o → ((h : Polynomial) → power_within F f (suc k) ≡ Some h → (h ≡ power F f (suc k)) × ((i : ℕ) → 2 ≤ i → i ≤ suc k → IsSmall (power F f i)))
-            → option_and_then (λ h. within (product F h f)) o ≡ Some g → (g ≡ power F f (suc (suc k))) × ((i : ℕ) → 2 ≤ i → i ≤ suc (suc k) → IsSmall (power F f i))
+        by : (o : Option Polynomial) → power_within F f (suc k) ≡ o → ((h : Polynomial) → power_within F f (suc k) ≡ Some h → (h ≡ power F f (suc k)) × ((i : ℕ) → 2 ≤ i → i ≤ suc k → IsWithinLimits (power F f i)))
+            → option_and_then (λ h. within (product F h f)) o ≡ Some g → (g ≡ power F f (suc (suc k))) × ((i : ℕ) → 2 ≤ i → i ≤ suc (suc k) → IsWithinLimits (power F f i))
         by None is before ok = absurd cc
         by (Some h) is before ok =
             let earlier = before h is in
             let now = within-small (product F h f) g ok in
             let value : product F h f ≡ power F f (suc (suc k)) = ap (λ u. product F u f) earlier.0 ∙ more-is k in (
               sym now.0 ∙ value,
-              λ i two up. ⊎_elim (λ e. subst (λ n. IsSmall (power F f n)) (sym e) (subst IsSmall value now.1)) (λ less. earlier.1 i two less) (last_or i (suc k) up),
+              λ i two up. ⊎_elim (λ e. subst (λ n. IsWithinLimits (power F f n)) (sym e) (subst IsWithinLimits value now.1)) (λ less. earlier.1 i two less) (last_or i (suc k) up),
             )
 
-    pub small-power : (k : ℕ) → ((i : ℕ) → 2 ≤ i → i ≤ k → IsSmall (power F f i)) → power_within F f k ≡ Some (power F f k)
+    pub small-power : (k : ℕ) → ((i : ℕ) → 2 ≤ i → i ≤ k → IsWithinLimits (power F f i)) → power_within F f k ≡ Some (power F f k)
     unfolding power_within
     small-power zero h = ap (λ g. Some g) (sym (power_zero L P))
     small-power (suc zero) h = ap (λ g. Some g) (sym (power_first L P))

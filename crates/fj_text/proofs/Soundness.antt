@@ -13,7 +13,7 @@ use Rattle.fj_text.specs.declared.scope.Meaning.{Meaning}
 use Rattle.fj_text.specs.declared.scope.Meaning.TheVariants as meanings
 use Rattle.fj_text.specs.Expression.{Answer, atom, atom_of, constant, exponent_of, expression, factor, first_term, formed, is_wide, parenthesised, plus_term, power_within, repeat, sum_at, term_at, times_factor, variable, within}
 use Rattle.fj_text.specs.Grammar as grammar
-use Rattle.fj_text.specs.Grammar.{IsAtom, IsExpression, IsFactor, IsSmall, IsTerm, tokens_left}
+use Rattle.fj_text.specs.Grammar.{IsAtom, IsExpression, IsFactor, IsWithinLimits, IsTerm, tokens_left}
 use Rattle.fj_text.specs.State.{State, ◌>>=◌, after, after_sign, fault_at, is_the_sign, next, unexpected}
 use Rattle.fj_text.specs.Token.{Token, Word, Number, Sign, BadByte, Placed, star, caret, plus, minus, opening, closing}
 use Rattle.fj_text.proofs.Grammars.{IsPolynomial-atom, power-small, within-small}

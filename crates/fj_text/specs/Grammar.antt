@@ -13,12 +13,12 @@ use Rattle.fj_text.specs.State.{State}
 use Rattle.fj_text.specs.Expression.{expression}
 
 -- At most 1,000 terms, and a degree of at most 1,000.
-pub record IsSmall (f : Polynomial) : Type 0 where
+pub record IsWithinLimits (f : Polynomial) : Type 0 where
   pub few : len f ≤ 1000
   pub low : unwrap_or (degree f) 0 ≤ 1000
 
 -- Tokens that are an atom, a factor, a term and an expression with this value. At most so many parentheses are around
--- each other, and each value formed on the way is small.
+-- each other, and each value formed on the way is within the limits.
 mutual
   pub data IsAtom (F : Field) (meaning : List ℕ → Meaning) : ℕ → List Token → Polynomial → Type 0 where
     number : {depth n : ℕ} → n < 2 ^ 32 → IsAtom F meaning depth (Number n ∷ []) (term (n % F.characteristic) origin)
@@ -27,17 +27,17 @@ mutual
 
   pub data IsFactor (F : Field) (meaning : List ℕ → Meaning) : ℕ → List Token → Polynomial → Type 0 where
     atom : {depth : ℕ} {ts : List Token} {f : Polynomial} → IsAtom F meaning depth ts f → IsFactor F meaning depth ts f
-    raised : {depth k : ℕ} {ts : List Token} {f : Polynomial} → IsAtom F meaning depth ts f → k ≤ 1000 → ((i : ℕ) → 2 ≤ i → i ≤ k → IsSmall (power F f i)) → IsFactor F meaning depth (ts ++ Sign caret ∷ Number k ∷ []) (power F f k)
+    raised : {depth k : ℕ} {ts : List Token} {f : Polynomial} → IsAtom F meaning depth ts f → k ≤ 1000 → ((i : ℕ) → 2 ≤ i → i ≤ k → IsWithinLimits (power F f i)) → IsFactor F meaning depth (ts ++ Sign caret ∷ Number k ∷ []) (power F f k)
 
   pub data IsTerm (F : Field) (meaning : List ℕ → Meaning) : ℕ → List Token → Polynomial → Type 0 where
     factor : {depth : ℕ} {ts : List Token} {f : Polynomial} → IsFactor F meaning depth ts f → IsTerm F meaning depth ts f
-    times : {depth : ℕ} {ts us : List Token} {f g : Polynomial} → IsTerm F meaning depth ts f → IsFactor F meaning depth us g → IsSmall (product F f g) → IsTerm F meaning depth (ts ++ Sign star ∷ us) (product F f g)
+    times : {depth : ℕ} {ts us : List Token} {f g : Polynomial} → IsTerm F meaning depth ts f → IsFactor F meaning depth us g → IsWithinLimits (product F f g) → IsTerm F meaning depth (ts ++ Sign star ∷ us) (product F f g)
 
   pub data IsExpression (F : Field) (meaning : List ℕ → Meaning) : ℕ → List Token → Polynomial → Type 0 where
     first : {depth : ℕ} {ts : List Token} {f : Polynomial} → IsTerm F meaning depth ts f → IsExpression F meaning depth ts f
     negative : {depth : ℕ} {ts : List Token} {f : Polynomial} → IsTerm F meaning depth ts f → IsExpression F meaning depth (Sign minus ∷ ts) (negation F f)
-    add : {depth : ℕ} {ts us : List Token} {f g : Polynomial} → IsExpression F meaning depth ts f → IsTerm F meaning depth us g → IsSmall (sum F f g) → IsExpression F meaning depth (ts ++ Sign plus ∷ us) (sum F f g)
-    less : {depth : ℕ} {ts us : List Token} {f g : Polynomial} → IsExpression F meaning depth ts f → IsTerm F meaning depth us g → IsSmall (sum F f (negation F g)) → IsExpression F meaning depth (ts ++ Sign minus ∷ us) (sum F f (negation F g))
+    add : {depth : ℕ} {ts us : List Token} {f g : Polynomial} → IsExpression F meaning depth ts f → IsTerm F meaning depth us g → IsWithinLimits (sum F f g) → IsExpression F meaning depth (ts ++ Sign plus ∷ us) (sum F f g)
+    less : {depth : ℕ} {ts us : List Token} {f g : Polynomial} → IsExpression F meaning depth ts f → IsTerm F meaning depth us g → IsWithinLimits (sum F f (negation F g)) → IsExpression F meaning depth (ts ++ Sign minus ∷ us) (sum F f (negation F g))
 
 -- the tokens that are left, without their places
 abbrev pub tokens_left : State → List Token
