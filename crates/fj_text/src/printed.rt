@@ -99,10 +99,9 @@ fn push_zero(out: &mut Vec<u8>) -> Result<(), AllocError>
 fn push_term(out: &mut Vec<u8>, term: &PlainTerm, vars: &Names) -> Result<(), AllocError>
     ensures { OnOk result (out.new.items ≡ out.old.items ++ term_bytes vars.now (entry term.now)) }
 {
-    let mut is_bare = true;
-    if term.rank != 1 {
+    let mut is_bare = term.rank == 1;
+    if !is_bare {
         push_decimal(out, term.rank)?;
-        is_bare = false;
     }
     for place in 0..vars.len() {
         let exponent = term.exps[place];

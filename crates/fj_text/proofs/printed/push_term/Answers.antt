@@ -5,18 +5,18 @@ use Rattle.std.proofs.lemmas.Option.{slice_get-get_or}
 use Rattle.fj_text.specs.Printed.{power_bytes}
 use Rattle.fj_text.proofs.TermText.{bare_begins, rank_begins, power_left_out, power_pushed, text_as}
 use Rattle.fj_text.proofs.printed.push_term.Goals as goal
-use Rattle.fj_text.proofs.printed.push_term.Goals.{then-term-ne1+in_ok-push_decimal, else-term-ne1, then-exponent-ne0+in_ok-push_star+in_ok-push_power, else-exponent-ne0}
+use Rattle.fj_text.proofs.printed.push_term.Goals.{then-not-is_bare+in_ok-push_decimal, else-not-is_bare, then-exponent-ne0+in_ok-push_star+in_ok-push_power, else-exponent-ne0}
 
 pub loop-place-init : goal.loop-place-init
 loop-place-init c =
     let old = c.args.out.now.items in
+    let names = c.args.vars.now in
     let rank = c.args.term.now.rank in
     let exponents = c.args.term.now.exps in
-    elim c.if-term-ne1.branch [
-      | then-term-ne1+in_ok-push_decimal w ↦
-          text_as _ _ _ _ _ _ _ _ _ (rank_begins old c.args.vars.now rank exponents (ne_eqb _ _ w.if-term-ne1.true)) (ap (λ (v : Vec ℕ). v.items) w.out-is ∙ w.in_ok-push_decimal.ensures) w.is_bare-is
-      | else-term-ne1 w ↦
-          text_as _ _ _ _ _ _ _ _ _ (bare_begins old c.args.vars.now rank exponents (eq-eqb _ _ w.if-term-ne1.false)) (ap (λ (v : Vec ℕ). v.items) w.out-is) w.is_bare-is
+    elim c.if-not-is_bare.branch [
+      | then-not-is_bare+in_ok-push_decimal w ↦
+          text_as _ _ _ _ _ _ _ _ _ (rank_begins old names rank exponents (ne_eqb _ _ w.if-not-is_bare.true)) (ap (λ (v : Vec ℕ). v.items) w.out-is ∙ w.in_ok-push_decimal.ensures) (ne_eqb _ _ w.if-not-is_bare.true)
+      | else-not-is_bare w ↦ text_as _ _ _ _ _ _ _ _ _ (bare_begins old names rank exponents (eq-eqb _ _ w.if-not-is_bare.false)) (ap (λ (v : Vec ℕ). v.items) w.out-is) (eq-eqb _ _ w.if-not-is_bare.false)
     ]
 
 pub loop-place-preserved : goal.loop-place-preserved
