@@ -1,0 +1,26 @@
+-- Members of a run as the code keeps them: with their sugars, and with their cofactors over the list of the run.
+use Rattle.std.specs.Prelude.{◌≡◌, ℕ, List, length, map, All}
+use Rattle.fj_coeff.specs.Field.{Field}
+use Rattle.fj_theory.specs.Polynomial.{Polynomial}
+use Rattle.fj_theory.specs.Ideal.{ArePolynomials}
+use Rattle.fj_theory.specs.Rows.{IsRow}
+use Rattle.fj_theory.specs.Division.{Sugared, DegreeAtMost}
+use Rattle.fj_basis.specs.declared.members.Member.{Member}
+
+-- The member without its cofactors.
+abbrev pub sugared : Member → Sugared
+sugared m = record { polynomial = m.polynomial; sugar = m.sugar }
+
+abbrev pub sugared_members : List Member → List Sugared
+sugared_members = map sugared
+
+-- The member is the combination of the list L with its cofactors, and their terms have totals of at most its sugar.
+pub record IsTraced (F : Field) (L : List Polynomial) (m : Member) : Type 0 where
+  pub row : IsRow F L m.polynomial m.row.items
+  pub within : All (DegreeAtMost m.sugar) m.row.items
+
+-- A row of this length over the field, with terms whose totals are at most the bound.
+pub record IsRowWithin (F : Field) (bound count : ℕ) (row : List Polynomial) : Type 0 where
+  pub polynomials : ArePolynomials F row
+  pub long : length row ≡ count
+  pub within : All (DegreeAtMost bound) row

@@ -1,0 +1,30 @@
+ghost use Rattle.std.specs.Prelude.{◌≡◌};
+ghost use Rattle.fj_basis.specs.Members.{sugared};
+
+use crate::divisor::Divisor;
+use fj_coeff::Coeff;
+use fj_mono::Order;
+use fj_poly::Poly;
+
+/// The cofactors by which a polynomial is a combination of a list.
+pub(crate) type Row<K, O> = Vec<Poly<K, O>>;
+
+/// A member of a run, with its sugar and its cofactors over the list that the run was given.
+#[derive(Drop)]
+pub(crate) struct Member<K: Coeff, O: Order> {
+    pub(crate) polynomial: Poly<K, O>,
+    pub(crate) sugar: u64,
+    pub(crate) row: Row<K, O>,
+}
+
+impl<K: Coeff, O: Order> Divisor<K, O> for Member<K, O> {
+    ghost sugared = { sugared };
+
+    fn polynomial(&self) -> &Poly<K, O> {
+        &self.polynomial
+    }
+
+    fn sugar(&self) -> u64 {
+        self.sugar
+    }
+}
