@@ -8,14 +8,14 @@ use Rattle.fj_theory.specs.Division.{Sugared, DegreeAtMost}
 use Rattle.fj_basis.specs.declared.members.Member.{Member}
 
 -- The member without its cofactors.
-abbrev pub sugared : Member → Sugared
+abbrev pub sugared : {K O : Type 0} → Member K O → Sugared
 sugared m = record { polynomial = m.polynomial; sugar = m.sugar }
 
-abbrev pub sugared_members : List Member → List Sugared
+abbrev pub sugared_members : {K O : Type 0} → List (Member K O) → List Sugared
 sugared_members = map sugared
 
 -- The member is the combination of the list L with its cofactors, and their terms have totals of at most its sugar.
-pub record IsTraced (F : Field) (L : List Polynomial) (m : Member) : Type 0 where
+pub record IsTraced {K O : Type 0} (F : Field) (L : List Polynomial) (m : Member K O) : Type 0 where
   pub row : IsRow F L m.polynomial m.row.items
   pub within : All (DegreeAtMost m.sugar) m.row.items
 

@@ -10,7 +10,7 @@ unfoldable pub place_by : (List ℕ → List ℕ) → Option Monomial → List �
 place_by key (Some m) rest = 0 ∷ (key m.exponents ++ rest)
 place_by key None rest = 1 ∷ rest
 
-unfoldable pub place : (List ℕ → List ℕ) → Pair → List ℕ
+unfoldable pub place : {O : Type 0} → (List ℕ → List ℕ) → Pair O → List ℕ
 place key p = place_by key p.multiple (p.j ∷ p.i ∷ [])
 
 -- The monomial with these exponents, and none where they are above the limit.
