@@ -33,7 +33,7 @@ pub record Listed (F : Field) (key : List ℕ → List ℕ) (ts : List (List ℕ
   pub terms : AreTerms F ts
   pub value : polynomial_of ts ≡ f
 
-terms_from_each : {F : Field} (ts : List (List ℕ × ℕ)) → All (IsTerm F) ts → AreTerms F ts
+pub terms_from_each : {F : Field} (ts : List (List ℕ × ℕ)) → All (IsTerm F) ts → AreTerms F ts
 terms_from_each [] all = tt
 terms_from_each {F} (t ∷ ts) all =
     let T = All-head (IsTerm F) t ts all in

@@ -7,3 +7,4 @@ pub mod Push
 pub mod Limits
 pub mod Changed
 pub mod Values
+pub mod Plain

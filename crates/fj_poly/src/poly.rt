@@ -7,6 +7,7 @@ ghost use Rattle.fj_theory.specs.Polynomial.{IsPolynomial, coefficient, degree, 
 ghost use Rattle.fj_poly.specs.Limit.{IsHigh};
 
 mod order;
+mod plain;
 pub(crate) mod point;
 mod product;
 

@@ -2,7 +2,7 @@ use crate::fault::PolyFault;
 use crate::poly::Poly;
 use crate::poly::point::Point;
 use fj_coeff::{Coeff, Fp};
-use fj_mono::{Grevlex, Lex, Mono, Order};
+use fj_mono::{Grevlex, Grlex, Lex, Mono, Order};
 use std::alloc::{AllocError, Global};
 use std::process::Abort;
 use std::test::Fail;
@@ -205,4 +205,40 @@ fn textbook_values(rt: HostRuntime) -> Result<(), Fail> {
     let zero: Poly<Fp<5>, Lex> = Poly::zero(alloc);
     assert!(rt; zero.eval(&plane) == number(0));
     Ok(())
+}
+
+// The plain terms of a polynomial are these, and they are read back in its order and in Lex.
+fn has_plain_terms<K: Coeff, O: Order>(
+    rt: &impl Abort,
+    alloc: Global,
+    p: &Poly<K, O>,
+    terms: &[([u64; 3], u64)],
+) -> Result<(), Fail> {
+    let plain = p.to_plain(alloc)?;
+    assert_eq!(rt; plain.len(), terms.len());
+    for (i, ([x, y, z], n)) in terms.iter().enumerate() {
+        if i < plain.len() {
+            let t = plain.get(i);
+            assert_eq!(rt; t.exps, [*x, *y, *z, 0, 0, 0, 0, 0]);
+            assert_eq!(rt; t.rank, *n);
+        }
+    }
+    let back: Poly<K, O> = Poly::from_plain(alloc, &plain)?;
+    assert!(rt; back.same(p));
+    let lex: Poly<K, Lex> = Poly::from_plain(alloc, &plain)?;
+    assert!(rt; lex.same(&p.reorder(alloc)?));
+    Ok(())
+}
+
+// x*z + y^2: Grevlex takes y^2 first, Grlex x*z.
+#[test]
+fn plain_terms(rt: HostRuntime) -> Result<(), Fail> {
+    let alloc = rt.alloc();
+    let terms = [([1, 0, 1], 1), ([0, 2, 0], 1)];
+    let p: Poly<Fp<5>, Grevlex> = poly(&rt, alloc, &terms)?;
+    has_plain_terms(&rt, alloc, &p, &[([0, 2, 0], 1), ([1, 0, 1], 1)])?;
+    let q: Poly<Fp<5>, Grlex> = p.reorder(alloc)?;
+    has_plain_terms(&rt, alloc, &q, &terms)?;
+    let zero: Poly<Fp<5>, Grlex> = Poly::zero(alloc);
+    has_plain_terms(&rt, alloc, &zero, &[])
 }
