@@ -4,3 +4,6 @@ pub mod Quotients
 pub mod Members
 pub mod Place
 pub mod State
+pub mod Outcome
+pub mod Finished
+pub mod Basis

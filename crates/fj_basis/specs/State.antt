@@ -1,16 +1,19 @@
 -- The state of a run as the code keeps it.
-use Rattle.std.specs.Prelude.{◌≡◌, ℕ, suc, ◌<◌, ◌≤◌, List, [], ◌∷◌, All, Any, Contains, Result, Ok, Err}
-use Rattle.std.specs.BTreeSet.{BTreeSet}
+use Rattle.std.specs.Prelude.{◌≡◌, ◌≢◌, ◌⊎◌, ℕ, ◌<◌, ◌≤◌, List, [], map, length, replicate, slice_index_or, All, Any, Contains, Option, MatchOption}
+use Rattle.std.specs.FinMap.{empty}
 use Rattle.fj_coeff.specs.Field.{Field}
-use Rattle.fj_theory.specs.Polynomial.{Polynomial}
+use Rattle.fj_theory.specs.Exponents.{origin, minus}
+use Rattle.fj_theory.specs.Polynomial.{Polynomial, negation, product, term}
+use Rattle.fj_theory.specs.Lead.{lead_coefficient}
+use Rattle.fj_theory.specs.Rows.{add_multiple, add_multiples}
 use Rattle.fj_theory.specs.Ideal.{ArePolynomials}
-use Rattle.fj_theory.specs.Division.{Sugared, IsHighDivision}
+use Rattle.fj_theory.specs.Division.{Sugared, Division, IsLowDivision}
 use Rattle.fj_theory.specs.Run as definition
 use Rattle.fj_basis.specs.declared.pairs.Pair.{Pair}
 use Rattle.fj_basis.specs.declared.members.Member.{Member}
 use Rattle.fj_basis.specs.declared.run.Run.{Run}
 use Rattle.fj_basis.specs.Place.{IsWithinLimit}
-use Rattle.fj_basis.specs.Members.{sugared_members, IsTraced}
+use Rattle.fj_basis.specs.Members.{sugared, sugared_members, IsTraced}
 
 -- The pair with the least common multiple of its leads.
 pub record IsPairOf {O : Type 0} (key : List ℕ → List ℕ) (G : List Sugared) (p : Pair O) : Type 0 where
@@ -30,6 +33,31 @@ pub record IsAfter {K O : Type 0} (F : Field) (key : List ℕ → List ℕ) (L :
   pub pending : ArePending key state s.pending.keys
   pub traced : All (IsTraced F L) s.members.items
 
+-- The pairs of the place j with those before it have come to be pending.
+pub record HasPairsWith {O : Type 0} (key : List ℕ → List ℕ) (G : List Sugared) (j : ℕ) (before after : List (Pair O)) : Type 0 where
+  pub kept : All (Contains after) before
+  pub new : (i : ℕ) → i < j → Any (λ p. (p.i, p.j) ≡ (i, j)) after
+  pub sound : All (λ p. Contains before p ⊎ (IsPairOf key G p × (p.i < j) × (p.j ≡ j))) after
+
+-- The cofactors of an S-polynomial, less the members' cofactors times the quotients of its division.
+unfoldable pub s_polynomial_row : {K O : Type 0} → Field → (List ℕ → List ℕ) → List (Member K O) → ℕ × ℕ → List Polynomial → List Polynomial
+s_polynomial_row F key members pair quotients =
+    let G = sugared_members members in
+    let rows = map (λ m. m.row.items) members in
+    let factor : ℕ → ℕ → Polynomial = λ c k. term c (minus (definition.pair_multiple key G pair) (definition.lead_of key G k)) in
+    let row : ℕ → List Polynomial = λ k. slice_index_or rows k [] in
+    let first = add_multiple F (factor 1 pair.0) (replicate (length (row pair.0)) empty) (row pair.0) in
+    let second = add_multiple F (factor (F.neg 1) pair.1) first (row pair.1) in
+    add_multiples F (map (negation F) quotients) rows second
+
+-- The division of the S-polynomial of the pair, and the member that a remainder that isn't zero gives.
+pub record IsNextMember {K O : Type 0} (F : Field) (key : List ℕ → List ℕ) (members : List (Member K O)) (pair : ℕ × ℕ) (next : Option (Member K O)) : Type 0 where
+  pub last : Division
+  pub division : IsLowDivision F key (sugared_members members) (definition.s_polynomial F key (sugared_members members) pair) last
+  pub found : MatchOption next (last.remainder ≡ empty) (λ m.
+      (last.remainder ≢ empty) × (sugared m ≡ definition.monic_member F key (record { polynomial = last.remainder; sugar = last.sugar }))
+      × (m.row.items ≡ map (product F (term (F.inverse (lead_coefficient key last.remainder)) origin)) (s_polynomial_row F key members pair last.quotients)))
+
 -- Some run, after some turns.
 pub record IsState {K O : Type 0} (F : Field) (key : List ℕ → List ℕ) (s : Run K O) : Type 0 where
   pub list : List Polynomial
@@ -42,3 +70,10 @@ pub record IsHighNext {K O : Type 0} (F : Field) (key : List ℕ → List ℕ) (
   pub members : state.members ≡ sugared_members s.members.items
   pub pending : ArePending key state s.pending.keys
   pub high : definition.IsHighTurn F key state
+
+-- The run on L is finished with these members within the budget, and no pair is pending.
+pub record IsEnded {K O : Type 0} (F : Field) (key : List ℕ → List ℕ) (L : List Polynomial) (budget : ℕ) (s : Run K O) : Type 0 where
+  pub turns : ℕ
+  pub within : turns ≤ budget
+  pub after : IsAfter F key L turns s
+  pub none : s.pending.keys ≡ []

@@ -1,41 +1,27 @@
+ghost use Rattle.std.specs.Prelude.{◌≡◌, IfOk, All, map};
+ghost use Rattle.fj_theory.specs.Plain.{HasRanksBelow, polynomial};
+ghost use Rattle.fj_theory.specs.Certificate.{AllRanksBelow, AllRowsBelow};
+ghost use Rattle.fj_plain.specs.OrderRow.{order_in_row};
+ghost use Rattle.fj_basis.specs.Outcome.{IsKeptOf};
+
 use crate::members::Row;
 use fj_coeff::Coeff;
 use fj_mono::Order;
-use fj_plain::{Kept, OrderName, PlainList, PlainPoly, PlainTable, PlainTerm};
+use fj_plain::{Kept, OrderName, PlainList, PlainTable};
 use fj_poly::Poly;
 use std::alloc::{AllocError, Global};
-
-// Stand-in until fj_poly has it.
-fn to_plain<K: Coeff, O: Order>(alloc: Global, f: &Poly<K, O>) -> Result<PlainPoly, AllocError> {
-    let mut terms = Vec::with_capacity(alloc, f.len())?;
-    for i in 0..f.len() {
-        let (c, m) = f.at(i);
-        let exps = [
-            m.exp(0),
-            m.exp(1),
-            m.exp(2),
-            m.exp(3),
-            m.exp(4),
-            m.exp(5),
-            m.exp(6),
-            m.exp(7),
-        ];
-        terms.push(PlainTerm {
-            exps,
-            rank: c.rank(),
-        })?;
-    }
-    Ok(PlainPoly::of(terms, K::SIZE).unwrap())
-}
 
 /// The polynomials of a list as plain ones.
 pub(crate) fn plain_list<K: Coeff, O: Order>(
     alloc: Global,
     list: &[Poly<K, O>],
-) -> Result<PlainList, AllocError> {
+) -> Result<PlainList, AllocError>
+    ensures value { IfOk result (λ plain. map polynomial plain ≡ list.now) }
+    ensures ranks { IfOk result (AllRanksBelow K.field.size) }
+{
     let mut plain = Vec::with_capacity(alloc, list.len())?;
     for f in list {
-        plain.push(to_plain(alloc, f)?)?;
+        plain.push(f.to_plain(alloc)?)?;
     }
     Ok(PlainList::of(plain))
 }
@@ -44,7 +30,10 @@ pub(crate) fn plain_list<K: Coeff, O: Order>(
 pub(crate) fn plain_table<K: Coeff, O: Order>(
     alloc: Global,
     rows: &[Row<K, O>],
-) -> Result<PlainTable, AllocError> {
+) -> Result<PlainTable, AllocError>
+    ensures value { IfOk result (λ plain. map (map polynomial) plain ≡ map (λ row. row.items) rows.now) }
+    ensures ranks { IfOk result (AllRowsBelow K.field.size) }
+{
     let mut plain = Vec::with_capacity(alloc, rows.len())?;
     for row in rows {
         plain.push(plain_list(alloc, row)?)?;
@@ -56,7 +45,9 @@ pub(crate) fn plain_table<K: Coeff, O: Order>(
 pub(crate) fn kept<K: Coeff, O: Order>(
     alloc: Global,
     list: &[Poly<K, O>],
-) -> Result<Kept, AllocError> {
+) -> Result<Kept, AllocError>
+    ensures { IfOk result (IsKeptOf (order_in_row O.ROW) list.now) }
+{
     Ok(Kept {
         order: OrderName::of(O::ROW),
         list: plain_list(alloc, list)?,

@@ -1,11 +1,13 @@
-ghost use Rattle.std.specs.Prelude.{◌≡◌, ◌+◌, ◌<◌, ◌≤◌, ℕ, List, IfOk, OnOk, All, length, map, replicate, set, slice_index_or};
+ghost use Rattle.std.specs.Prelude.{◌≡◌, ◌<◌, IfOk, OnOk, All, length, map, replicate, set};
 ghost use Rattle.std.specs.FinMap.{empty};
-ghost use Rattle.fj_theory.specs.Exponents.{origin, total};
+ghost use Rattle.fj_theory.specs.Exponents.{origin};
 ghost use Rattle.fj_theory.specs.Ideal.{ArePolynomials};
-ghost use Rattle.fj_theory.specs.Polynomial.{coefficient, negation, product, term};
-ghost use Rattle.fj_theory.specs.Division.{degree_limit, member_at};
+ghost use Rattle.fj_theory.specs.Polynomial.{negation, product, term};
+ghost use Rattle.fj_theory.specs.Division.{degree_limit};
 ghost use Rattle.fj_theory.specs.Rows.{add_multiple, add_multiples};
-ghost use Rattle.fj_poly.specs.Limit.{IsHigh, IsHighWhere};
+ghost use Rattle.fj_poly.specs.Limit.{IsHigh};
+ghost use Rattle.fj_basis.specs.Outcome.{IsHighOnlyWhere};
+ghost use Rattle.fj_basis.specs.Quotients.{AreQuotientsWithin};
 ghost use Rattle.fj_basis.specs.Members.{IsRowWithin, sugared_members};
 
 use crate::members::{Member, Row};
@@ -55,7 +57,7 @@ pub(crate) fn add_multiple<K: Coeff, O: Order>(
     requires long { length other.now ≡ length row.old }
     requires within { All (λ y. IsHigh (product K.field f.now y) → ⊥) other.now }
     ensures value { OnOk result (row.new ≡ add_multiple K.field f.now row.old other.now) }
-    ensures high { IsHighWhere ⊥ result }
+    ensures high { IsHighOnlyWhere ⊥ result }
 {
     for j in 0..row.len() {
         if !other[j].is_zero() {
@@ -73,11 +75,10 @@ pub(crate) fn subtract_multiples<K: Coeff, O: Order>(
     members: &[Member<K, O>],
 ) -> Result<(), PolyFault>
     requires row { ArePolynomials K.field row.old }
-    requires long { length quotients.now ≡ length members.now }
     requires rows { All (λ m. IsRowWithin K.field m.sugar (length row.old) m.row.items) members.now }
-    requires within { (k : ℕ) → k < length quotients.now → (a : List ℕ) → 0 < coefficient (slice_index_or quotients.now k empty) a → total a + (member_at (sugared_members members.now) k).sugar ≤ degree_limit }
+    requires quotients { AreQuotientsWithin K.field (sugared_members members.now) degree_limit quotients.now }
     ensures value { OnOk result (row.new ≡ add_multiples K.field (map (negation K.field) quotients.now) (map (λ m. m.row.items) members.now) row.old) }
-    ensures high { IsHighWhere ⊥ result }
+    ensures high { IsHighOnlyWhere ⊥ result }
 {
     let minus_one = K::one().neg();
     for k in 0..quotients.len() {

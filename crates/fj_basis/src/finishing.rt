@@ -1,25 +1,34 @@
+ghost use Rattle.std.specs.Prelude.{◌≡◌, ◌≢◌, ◌<◌, ◌≤◌, ◌++◌, ◌∷◌, [], List, IfOk, OnOk, All, Any, Contains, length, map};
+ghost use Rattle.std.specs.List.{range_with_len};
+ghost use Rattle.std.specs.FinMap.{empty};
+ghost use Rattle.fj_theory.specs.Ideal.{ArePolynomials};
+ghost use Rattle.fj_theory.specs.Polynomial.{Polynomial};
+ghost use Rattle.fj_theory.specs.Division.{AreWithinSugars, DegreeAtMost, IsHighDivision, degree_limit, polynomials_of};
+ghost use Rattle.fj_theory.specs.Run.{IsReplacing, given, is_left_out, kept_members, place_by_lead, sort_by_lead};
+ghost use Rattle.fj_basis.specs.Finished.{AreMembersOfRun, AreQuotients, IsHighReplacing, IsQuotients, IsReplacementOf};
+ghost use Rattle.fj_basis.specs.Members.{IsRowWithin, IsTraced, sugared, sugared_members};
+ghost use Rattle.fj_basis.specs.Outcome.{IsHighOnlyWhere};
+
 use crate::cofactors::subtract_multiples;
 use crate::division::divide_sugared;
 use crate::divisor::Divisor;
 use crate::members::{Member, Row};
 use fj_coeff::Coeff;
-use fj_mono::{Mono, Order};
+use fj_mono::Order;
 use fj_poly::{Poly, PolyFault};
 use std::alloc::{AllocError, Global};
 use std::cmp::Ordering;
 
-// The lead of a member, which isn't zero.
-fn lead<K: Coeff, O: Order>(member: &Member<K, O>) -> Mono {
-    let (_, m) = member.polynomial.lead().unwrap();
-    m
-}
-
 // The first act: whether a member is left out, since the lead of another divides its lead. Of members with equal leads
 // the first is kept.
-fn is_left_out<K: Coeff, O: Order>(members: &[Member<K, O>], i: usize) -> bool {
-    let own = lead(&members[i]);
+fn is_left_out<K: Coeff, O: Order>(members: &[Member<K, O>], i: usize) -> bool
+    requires nonzero { All (λ m. m.polynomial ≢ empty) members.now }
+    requires place { i < length members.now }
+    ensures { result ≡ is_left_out O.key (sugared_members members.now) i }
+{
+    let own = members[i].lead();
     for j in 0..members.len() {
-        let other = lead(&members[j]);
+        let other = members[j].lead();
         if other.divides(&own) && (!own.divides(&other) || j < i) {
             return true;
         }
@@ -31,7 +40,10 @@ fn is_left_out<K: Coeff, O: Order>(members: &[Member<K, O>], i: usize) -> bool {
 fn left_out<K: Coeff, O: Order>(
     alloc: Global,
     members: &[Member<K, O>],
-) -> Result<Vec<bool>, AllocError> {
+) -> Result<Vec<bool>, AllocError>
+    requires { All (λ m. m.polynomial ≢ empty) members.now }
+    ensures { IfOk result (λ out. out.items ≡ map (is_left_out O.key (sugared_members members.now)) (range_with_len 0 (length members.now))) }
+{
     let mut out = Vec::with_capacity(alloc, members.len())?;
     for i in 0..members.len() {
         out.push(is_left_out(members, i))?;
@@ -43,10 +55,15 @@ fn left_out<K: Coeff, O: Order>(
 fn place_by_lead<K: Coeff, O: Order>(
     sorted: &mut Vec<Member<K, O>>,
     member: Member<K, O>,
-) -> Result<(), AllocError> {
-    let own = lead(&member);
+) -> Result<(), AllocError>
+    requires nonzero { All (λ m. m.polynomial ≢ empty) sorted.old.items }
+    requires member { member.polynomial ≢ empty }
+    ensures value { OnOk result (sugared_members sorted.new.items ≡ place_by_lead O.key (sugared member) (sugared_members sorted.old.items)) }
+    ensures among { OnOk result (All (Contains (member ∷ sorted.old.items)) sorted.new.items) }
+{
+    let own = member.lead();
     let mut place = 0;
-    while place < sorted.len() && O::cmp(&own, &lead(&sorted[place])) == Ordering::Greater {
+    while place < sorted.len() && O::cmp(&own, &sorted[place].lead()) == Ordering::Greater {
         place += 1;
     }
     sorted.insert(place, member)?;
@@ -57,7 +74,11 @@ fn place_by_lead<K: Coeff, O: Order>(
 fn sorted_by_lead<K: Coeff, O: Order>(
     alloc: Global,
     mut members: Vec<Member<K, O>>,
-) -> Result<Vec<Member<K, O>>, AllocError> {
+) -> Result<Vec<Member<K, O>>, AllocError>
+    requires { All (λ m. m.polynomial ≢ empty) members.items }
+    ensures value { IfOk result (λ sorted. sugared_members sorted.items ≡ sort_by_lead O.key (kept_members O.key (sugared_members members.items))) }
+    ensures among { IfOk result (λ sorted. All (Contains members.items) sorted.items) }
+{
     let mut out = left_out(alloc, &members)?;
     let mut sorted = Vec::new(alloc);
     while let (Some(member), Some(is_out)) = (members.pop(), out.pop()) {
@@ -73,7 +94,12 @@ fn sorted_by_lead<K: Coeff, O: Order>(
 pub(crate) fn replaced<K: Coeff, O: Order>(
     alloc: Global,
     members: Vec<Member<K, O>>,
-) -> Result<Vec<Member<K, O>>, PolyFault> {
+) -> Result<Vec<Member<K, O>>, PolyFault>
+    requires { AreMembersOfRun K.field O.key members.items }
+    ensures value { IfOk result (λ basis. IsReplacing K.field O.key (sugared_members members.items) (record { replaced = sugared_members basis.items; rest = [] })) }
+    ensures traced { IfOk result (λ basis. (L : List Polynomial) → ArePolynomials K.field L → All (IsTraced K.field L) members.items → All (IsTraced K.field L) basis.items) }
+    ensures high { IsHighOnlyWhere (IsHighReplacing K.field O.key (sugared_members members.items)) result }
+{
     let mut replaced = Vec::new(alloc);
     for member in sorted_by_lead(alloc, members)? {
         let next = replacement(alloc, member, &replaced)?;
@@ -85,7 +111,9 @@ pub(crate) fn replaced<K: Coeff, O: Order>(
 fn append_member<K: Coeff, O: Order>(
     members: &mut Vec<Member<K, O>>,
     member: Member<K, O>,
-) -> Result<(), AllocError> {
+) -> Result<(), AllocError>
+    ensures { OnOk result (members.new.items ≡ members.old.items ++ member ∷ []) }
+{
     members.push(member)?;
     Ok(())
 }
@@ -95,7 +123,17 @@ fn replacement<K: Coeff, O: Order>(
     alloc: Global,
     member: Member<K, O>,
     replaced: &[Member<K, O>],
-) -> Result<Member<K, O>, PolyFault> {
+) -> Result<Member<K, O>, PolyFault>
+    requires nonzero { All (λ m. m.polynomial ≢ empty) replaced.now }
+    requires polynomials { ArePolynomials K.field (polynomials_of (sugared_members replaced.now)) }
+    requires within { AreWithinSugars (sugared_members replaced.now) }
+    requires rows { All (λ m. IsRowWithin K.field m.sugar (length member.row.items) m.row.items) replaced.now }
+    requires bound { DegreeAtMost member.sugar member.polynomial }
+    requires low { member.sugar ≤ degree_limit }
+    requires row { ArePolynomials K.field member.row.items }
+    ensures value { IfOk result (IsReplacementOf K.field O.key replaced.now member) }
+    ensures high { IsHighOnlyWhere (IsHighDivision K.field O.key (sugared_members replaced.now) (sugared member)) result }
+{
     let division = divide_sugared(alloc, &member.polynomial, member.sugar, replaced)?;
     let mut row = member.row;
     subtract_multiples(alloc, &mut row, division.quotients(), replaced)?;
@@ -112,7 +150,13 @@ pub(crate) fn given_rows<K: Coeff, O: Order>(
     alloc: Global,
     list: &[Poly<K, O>],
     basis: &[Member<K, O>],
-) -> Result<Vec<Row<K, O>>, PolyFault> {
+) -> Result<Vec<Row<K, O>>, PolyFault>
+    requires nonzero { All (λ m. m.polynomial ≢ empty) basis.now }
+    requires polynomials { ArePolynomials K.field (polynomials_of (sugared_members basis.now)) }
+    requires within { AreWithinSugars (sugared_members basis.now) }
+    ensures rows { IfOk result (λ rows. AreQuotients K.field O.key (sugared_members basis.now) list.now (map (λ row. row.items) rows.items)) }
+    ensures high { IsHighOnlyWhere (Any (λ f. IsHighDivision K.field O.key (sugared_members basis.now) (given f)) list.now) result }
+{
     let mut rows = Vec::with_capacity(alloc, list.len())?;
     for f in list {
         let row = given_row(alloc, f, basis)?;
@@ -126,7 +170,13 @@ fn given_row<K: Coeff, O: Order>(
     alloc: Global,
     f: &Poly<K, O>,
     basis: &[Member<K, O>],
-) -> Result<Row<K, O>, PolyFault> {
+) -> Result<Row<K, O>, PolyFault>
+    requires nonzero { All (λ m. m.polynomial ≢ empty) basis.now }
+    requires polynomials { ArePolynomials K.field (polynomials_of (sugared_members basis.now)) }
+    requires within { AreWithinSugars (sugared_members basis.now) }
+    ensures row { IfOk result (λ row. IsQuotients K.field O.key (sugared_members basis.now) f.now row.items) }
+    ensures high { IsHighOnlyWhere (IsHighDivision K.field O.key (sugared_members basis.now) (given f.now)) result }
+{
     let division = divide_sugared(alloc, f, f.sugar(), basis)?;
     let (quotients, _, _) = division.into_parts();
     Ok(quotients)
@@ -135,7 +185,9 @@ fn given_row<K: Coeff, O: Order>(
 fn append_row<K: Coeff, O: Order>(
     rows: &mut Vec<Row<K, O>>,
     row: Row<K, O>,
-) -> Result<(), AllocError> {
+) -> Result<(), AllocError>
+    ensures { OnOk result (rows.new.items ≡ rows.old.items ++ row ∷ []) }
+{
     rows.push(row)?;
     Ok(())
 }

@@ -1,11 +1,13 @@
-ghost use Rattle.std.specs.Prelude.{◌≡◌, ◌≢◌, ◌<◌, ◌≤◌, ◌↔◌, ℕ, suc, List, [], IfOk, OnOk, IsTrue, length};
-ghost use Rattle.fj_theory.specs.Exponents.{divides, minus};
+ghost use Rattle.std.specs.Prelude.{◌≡◌, ◌≢◌, ◌+◌, ◌-◌, ◌<◌, ◌≤◌, ◌↔◌, ◌++◌, ◌∷◌, ℕ, suc, List, [], IfOk, OnOk, IsTrue, All, length};
+ghost use Rattle.std.specs.FinMap.{empty};
+ghost use Rattle.fj_theory.specs.Exponents.{divides, minus, total};
 ghost use Rattle.fj_theory.specs.Polynomial.{Polynomial, product, term};
-ghost use Rattle.fj_theory.specs.Division.{degree_limit, member_at};
-ghost use Rattle.fj_theory.specs.Run.{are_coprime, lead_of, s_polynomial};
-ghost use Rattle.fj_poly.specs.Limit.{IsHighWhere};
+ghost use Rattle.fj_theory.specs.Division.{AreWithinSugars, IsHighDivision, degree_limit, member_at};
+ghost use Rattle.fj_theory.specs.Run.{are_coprime, has_coprime_leads, lead_of, s_polynomial};
 ghost use Rattle.fj_basis.specs.Members.{sugared_members};
-ghost use Rattle.fj_basis.specs.State.{IsAfter, IsHighNext, IsState};
+ghost use Rattle.fj_basis.specs.Outcome.{IsHighOnlyWhere};
+ghost use Rattle.fj_basis.specs.Quotients.{AreQuotientsWithin};
+ghost use Rattle.fj_basis.specs.State.{HasPairsWith, IsAfter, IsHighNext, IsNextMember, IsPairOf, IsState, s_polynomial_row};
 
 use crate::cofactors::{add_multiple, row_of_one, scale_row, subtract_multiples, zero_row};
 use crate::division::divide_sugared;
@@ -67,10 +69,10 @@ impl<K: Coeff, O: Order> Run<K, O> {
         requires state { IsState K.field O.key self.old }
         requires pending { self.old.pending.keys ≢ [] }
         ensures turn { OnOk result ((L : List Polynomial) (turns : ℕ) → IsAfter K.field O.key L turns self.old → IsAfter K.field O.key L (suc turns) self.new) }
-        ensures high { IsHighWhere (IsHighNext K.field O.key self.old) result }
+        ensures high { IsHighOnlyWhere (IsHighNext K.field O.key self.old) result }
     {
         let pair = self.pending.pop_first().unwrap();
-        if are_coprime(&self.lead(pair.first()), &self.lead(pair.second())) {
+        if self.has_coprime_leads(&pair) {
             return Ok(());
         }
         match self.next_member(alloc, &pair)? {
@@ -85,7 +87,14 @@ impl<K: Coeff, O: Order> Run<K, O> {
         &self,
         alloc: Global,
         pair: &Pair<O>,
-    ) -> Result<Option<Member<K, O>>, PolyFault> {
+    ) -> Result<Option<Member<K, O>>, PolyFault>
+        requires state { IsState K.field O.key self.now }
+        requires pair { IsPairOf O.key (sugared_members self.now.members.items) pair.now }
+        requires first { pair.now.i < pair.now.j }
+        requires second { pair.now.j < length self.now.members.items }
+        ensures value { IfOk result (IsNextMember K.field O.key self.now.members.items (pair.now.i, pair.now.j)) }
+        ensures high { IsHighOnlyWhere (IsHighDivision K.field O.key (sugared_members self.now.members.items) (s_polynomial K.field O.key (sugared_members self.now.members.items) (pair.now.i, pair.now.j))) result }
+    {
         let (s, sugar) = self.s_polynomial(alloc, pair)?;
         let division = divide_sugared(alloc, &s, sugar, &self.members)?;
         let Some((c, _)) = division.remainder().lead() else {
@@ -102,18 +111,29 @@ impl<K: Coeff, O: Order> Run<K, O> {
         }))
     }
 
-    // The lead of the member at place k.
-    fn lead(&self, k: usize) -> Mono {
-        let (_, m) = self.members[k].polynomial.lead().unwrap();
-        m
+    // Whether the leads of a pair have no variable in common.
+    fn has_coprime_leads(&self, pair: &Pair<O>) -> bool
+        requires nonzero { All (λ m. m.polynomial ≢ empty) self.now.members.items }
+        requires first { pair.now.i < length self.now.members.items }
+        requires second { pair.now.j < length self.now.members.items }
+        ensures { result ≡ has_coprime_leads O.key (sugared_members self.now.members.items) (pair.now.i, pair.now.j) }
+    {
+        let first = self.members[pair.first()].lead();
+        let second = self.members[pair.second()].lead();
+        are_coprime(&first, &second)
     }
 
     // Appends a member, and its pairs with all earlier members become pending.
-    fn append(&mut self, member: Member<K, O>) -> Result<(), AllocError> {
-        let (_, lead) = member.polynomial.lead().unwrap();
+    fn append(&mut self, member: Member<K, O>) -> Result<(), AllocError>
+        requires nonzero { All (λ m. m.polynomial ≢ empty) self.old.members.items }
+        requires member { member.polynomial ≢ empty }
+        ensures members { OnOk result (self.new.members.items ≡ self.old.members.items ++ member ∷ []) }
+        ensures pending { OnOk result (HasPairsWith O.key (sugared_members self.new.members.items) (length self.old.members.items) self.old.pending.keys self.new.pending.keys) }
+    {
+        let lead = member.lead();
         let j = self.members.len();
         for i in 0..j {
-            self.pending.insert(Pair::new(i, j, &self.lead(i), &lead))?;
+            self.pending.insert(Pair::new(i, j, &self.members[i].lead(), &lead))?;
         }
         self.members.push(member)?;
         Ok(())
@@ -124,7 +144,16 @@ impl<K: Coeff, O: Order> Run<K, O> {
         &self,
         alloc: Global,
         pair: &Pair<O>,
-    ) -> Result<(Poly<K, O>, u64), PolyFault> {
+    ) -> Result<(Poly<K, O>, u64), PolyFault>
+        requires nonzero { All (λ m. m.polynomial ≢ empty) self.now.members.items }
+        requires within { AreWithinSugars (sugared_members self.now.members.items) }
+        requires pair { IsPairOf O.key (sugared_members self.now.members.items) pair.now }
+        requires first { pair.now.i < length self.now.members.items }
+        requires second { pair.now.j < length self.now.members.items }
+        ensures value { IfOk result (λ s. record { polynomial = s.0; sugar = s.1 } ≡ s_polynomial K.field O.key (sugared_members self.now.members.items) (pair.now.i, pair.now.j)) }
+        ensures low { IfOk result (λ s. s.1 ≤ degree_limit) }
+        ensures high { IsHighOnlyWhere (degree_limit < (s_polynomial K.field O.key (sugared_members self.now.members.items) (pair.now.i, pair.now.j)).sugar) result }
+    {
         let Some(multiple) = pair.multiple() else {
             return Err(PolyFault::High);
         };
@@ -139,15 +168,27 @@ impl<K: Coeff, O: Order> Run<K, O> {
     }
 
     // By how much the sugar of a member is above the total of its lead.
-    fn above(&self, k: usize) -> u64 {
+    fn above(&self, k: usize) -> u64
+        requires place { k < length self.now.members.items }
+        requires nonzero { All (λ m. m.polynomial ≢ empty) self.now.members.items }
+        ensures { result ≡ (member_at (sugared_members self.now.members.items) k).sugar - total (lead_of O.key (sugared_members self.now.members.items) k) }
+    {
         self.members[k]
             .sugar
-            .saturating_sub(self.lead(k).total())
+            .saturating_sub(self.members[k].lead().total())
     }
 
     // The multiple of a member whose lead is the monomial.
-    fn multiple_of(&self, alloc: Global, k: usize, m: &Mono) -> Result<Poly<K, O>, PolyFault> {
-        let factor = m.quot(&self.lead(k));
+    fn multiple_of(&self, alloc: Global, k: usize, m: &Mono) -> Result<Poly<K, O>, PolyFault>
+        requires place { k < length self.now.members.items }
+        requires nonzero { All (λ m. m.polynomial ≢ empty) self.now.members.items }
+        requires within { AreWithinSugars (sugared_members self.now.members.items) }
+        requires divisor { IsTrue (divides (lead_of O.key (sugared_members self.now.members.items) k) m.now.exponents) }
+        requires low { (member_at (sugared_members self.now.members.items) k).sugar - total (lead_of O.key (sugared_members self.now.members.items) k) + total m.now.exponents ≤ degree_limit }
+        ensures value { IfOk result (λ f. f ≡ product K.field (term 1 (minus m.now.exponents (lead_of O.key (sugared_members self.now.members.items) k))) (member_at (sugared_members self.now.members.items) k).polynomial) }
+        ensures high { IsHighOnlyWhere ⊥ result }
+    {
+        let factor = m.quot(&self.members[k].lead());
         self.members[k].polynomial.shift(alloc, &factor)
     }
 
@@ -157,14 +198,23 @@ impl<K: Coeff, O: Order> Run<K, O> {
         alloc: Global,
         pair: &Pair<O>,
         quotients: &[Poly<K, O>],
-    ) -> Result<Row<K, O>, PolyFault> {
+    ) -> Result<Row<K, O>, PolyFault>
+        requires state { IsState K.field O.key self.now }
+        requires pair { IsPairOf O.key (sugared_members self.now.members.items) pair.now }
+        requires first { pair.now.i < pair.now.j }
+        requires second { pair.now.j < length self.now.members.items }
+        requires low { (s_polynomial K.field O.key (sugared_members self.now.members.items) (pair.now.i, pair.now.j)).sugar ≤ degree_limit }
+        requires quotients { AreQuotientsWithin K.field (sugared_members self.now.members.items) degree_limit quotients.now }
+        ensures value { IfOk result (λ row. row.items ≡ s_polynomial_row K.field O.key self.now.members.items (pair.now.i, pair.now.j) quotients.now) }
+        ensures high { IsHighOnlyWhere ⊥ result }
+    {
         let multiple = pair.multiple().unwrap();
         let first = &self.members[pair.first()].row;
         let second = &self.members[pair.second()].row;
         let mut row = zero_row(alloc, first.len())?;
-        let factor = multiple.quot(&self.lead(pair.first()));
+        let factor = multiple.quot(&self.members[pair.first()].lead());
         add_multiple(alloc, &mut row, &Poly::term(alloc, K::one(), &factor)?, first)?;
-        let factor = multiple.quot(&self.lead(pair.second()));
+        let factor = multiple.quot(&self.members[pair.second()].lead());
         let minus_one = K::one().neg();
         add_multiple(alloc, &mut row, &Poly::term(alloc, minus_one, &factor)?, second)?;
         subtract_multiples(alloc, &mut row, quotients, &self.members)?;

@@ -1,8 +1,11 @@
+ghost use Rattle.std.specs.Prelude.{◌≡◌};
+ghost use Rattle.fj_basis.specs.declared.stop.Stop.TheVariants.{Memory};
+
 use fj_plain::Kept;
 use std::alloc::AllocError;
 use thiserror::Error;
 
-/// Why a calculation stops without an answer.
+/// Why a calculation with ideals stops without an answer. A list that a run was given is kept with the run's order.
 #[derive(Debug, Drop, Error)]
 pub enum Stop {
     /// The run on this list made as many turns as its budget allows, and pairs are pending.
@@ -19,6 +22,8 @@ pub enum Stop {
 }
 
 impl From<AllocError> for Stop {
+    ghost from_gives = { λ _ e. e ≡ Memory };
+
     fn from(_e: AllocError) -> Stop {
         Stop::Memory
     }
