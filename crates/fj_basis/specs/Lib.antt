@@ -3,6 +3,7 @@ pub mod Left
 pub mod Quotients
 pub mod Members
 pub mod Place
+pub mod PlaceLaws
 pub mod State
 pub mod Outcome
 pub mod Finished

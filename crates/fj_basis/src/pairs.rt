@@ -1,8 +1,9 @@
-ghost use Rattle.std.specs.Prelude.{◌≡◌, ◌∷◌, []};
-ghost use Rattle.std.specs.Ordering.{as_partial_cmp, is_eq, nat_cmp, on};
+ghost use Rattle.std.specs.Prelude.{◌≡◌, ◌∷◌, [], refl};
+ghost use Rattle.std.specs.Ordering.{as_partial_cmp, eq_by_cmp, nat_cmp, on};
 ghost use Rattle.std.specs.Cmp.Lexicographic.{slice_cmp};
 ghost use Rattle.fj_theory.specs.Exponents.{least_common_multiple};
 ghost use Rattle.fj_basis.specs.Place.{IsWithinLimit, place};
+ghost use Rattle.fj_basis.specs.PlaceLaws.{places_equiv, places_per, places_po, places_total};
 
 use fj_mono::{Mono, Order};
 use std::cmp::Ordering;
@@ -61,9 +62,9 @@ impl<O: Order> Pair<O> {
 }
 
 impl<O: Order> PartialEq for Pair<O> {
-    ghost eq = { λ a b. is_eq (on (place O.key) (slice_cmp nat_cmp) a b) };
+    ghost eq = { eq_by_cmp (on (place O.key) (slice_cmp nat_cmp)) };
 
-    ghost laws = { ? };
+    ghost laws = { places_per (place O.key) };
 
     fn eq(&self, o: &Pair<O>) -> bool {
         self.cmp(o) == Ordering::Equal
@@ -71,13 +72,13 @@ impl<O: Order> PartialEq for Pair<O> {
 }
 
 impl<O: Order> Eq for Pair<O> {
-    ghost laws = { ? };
+    ghost laws = { places_equiv (place O.key) };
 }
 
 impl<O: Order> PartialOrd for Pair<O> {
     ghost partial_cmp = { as_partial_cmp (on (place O.key) (slice_cmp nat_cmp)) };
 
-    ghost laws = { ? };
+    ghost laws = { places_po (place O.key) };
 
     fn partial_cmp(&self, o: &Pair<O>) -> Option<Ordering> {
         Some(self.cmp(o))
@@ -87,11 +88,11 @@ impl<O: Order> PartialOrd for Pair<O> {
 impl<O: Order> Ord for Pair<O> {
     ghost cmp = { on (place O.key) (slice_cmp nat_cmp) };
 
-    ghost total = { ? };
+    ghost total = { places_total (place O.key) };
 
-    ghost matches_partial_cmp = { ? };
+    ghost matches_partial_cmp = { λ a b. refl };
 
-    ghost matches_eq = { ? };
+    ghost matches_eq = { λ a b. refl };
 
     fn cmp(&self, o: &Pair<O>) -> Ordering {
         match (&self.multiple, &o.multiple) {

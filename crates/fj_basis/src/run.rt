@@ -83,11 +83,7 @@ impl<K: Coeff, O: Order> Run<K, O> {
     }
 
     // The member that the pair gives, if the remainder of its S-polynomial isn't zero.
-    fn next_member(
-        &self,
-        alloc: Global,
-        pair: &Pair<O>,
-    ) -> Result<Option<Member<K, O>>, PolyFault>
+    fn next_member(&self, alloc: Global, pair: &Pair<O>) -> Result<Option<Member<K, O>>, PolyFault>
         requires state { IsState K.field O.key self.now }
         requires pair { IsPairOf O.key (sugared_members self.now.members.items) pair.now }
         requires first { pair.now.i < pair.now.j }
@@ -133,18 +129,15 @@ impl<K: Coeff, O: Order> Run<K, O> {
         let lead = member.lead();
         let j = self.members.len();
         for i in 0..j {
-            self.pending.insert(Pair::new(i, j, &self.members[i].lead(), &lead))?;
+            self.pending
+                .insert(Pair::new(i, j, &self.members[i].lead(), &lead))?;
         }
         self.members.push(member)?;
         Ok(())
     }
 
     // The S-polynomial of a pair, with its sugar.
-    fn s_polynomial(
-        &self,
-        alloc: Global,
-        pair: &Pair<O>,
-    ) -> Result<(Poly<K, O>, u64), PolyFault>
+    fn s_polynomial(&self, alloc: Global, pair: &Pair<O>) -> Result<(Poly<K, O>, u64), PolyFault>
         requires nonzero { All (λ m. m.polynomial ≢ empty) self.now.members.items }
         requires within { AreWithinSugars (sugared_members self.now.members.items) }
         requires pair { IsPairOf O.key (sugared_members self.now.members.items) pair.now }
@@ -213,10 +206,20 @@ impl<K: Coeff, O: Order> Run<K, O> {
         let second = &self.members[pair.second()].row;
         let mut row = zero_row(alloc, first.len())?;
         let factor = multiple.quot(&self.members[pair.first()].lead());
-        add_multiple(alloc, &mut row, &Poly::term(alloc, K::one(), &factor)?, first)?;
+        add_multiple(
+            alloc,
+            &mut row,
+            &Poly::term(alloc, K::one(), &factor)?,
+            first,
+        )?;
         let factor = multiple.quot(&self.members[pair.second()].lead());
         let minus_one = K::one().neg();
-        add_multiple(alloc, &mut row, &Poly::term(alloc, minus_one, &factor)?, second)?;
+        add_multiple(
+            alloc,
+            &mut row,
+            &Poly::term(alloc, minus_one, &factor)?,
+            second,
+        )?;
         subtract_multiples(alloc, &mut row, quotients, &self.members)?;
         Ok(row)
     }
