@@ -1,0 +1,4 @@
+pub mod Left
+pub mod Multiples
+pub mod DivisionState
+pub mod Faults

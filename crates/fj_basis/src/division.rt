@@ -12,6 +12,7 @@ ghost use Rattle.fj_theory.specs.Run.{given};
 ghost use Rattle.fj_poly.specs.Limit.{IsHighWhere};
 ghost use Rattle.fj_basis.specs.Quotients.{AreAbove, IsDivided};
 
+use crate::cofactors::zero_row;
 use crate::divisor::Divisor;
 use fj_coeff::Coeff;
 use fj_mono::{DEGREE_LIMIT, Mono, Order};
@@ -33,6 +34,7 @@ impl<K: Coeff, O: Order> Model for Division<K, O> {
     ghost use Rattle.std.specs.Prelude.{◌≤◌};
     ghost use Rattle.std.specs.FinMap.{len};
     ghost use Rattle.fj_theory.specs.Division as definition;
+    ghost use Rattle.fj_theory.specs.Polynomial.{IsPolynomial};
     ghost use Rattle.fj_basis.specs.DivisionCode.{division_code};
     ghost use Rattle.fj_basis.specs.Left.{front, back};
 
@@ -42,7 +44,7 @@ impl<K: Coeff, O: Order> Model for Division<K, O> {
 
     ghost view = { λ d. record { dividend = back O.key d.moved d.left; quotients = d.quotients.items; remainder = front O.key d.moved d.left; sugar = d.sugar } };
 
-    ghost invariant = { λ d. d.moved ≤ len d.left };
+    ghost invariant = { λ d. (d.moved ≤ len d.left) × IsPolynomial K.field d.left };
 }
 
 impl<K: Coeff, O: Order> Division<K, O> {
@@ -56,14 +58,10 @@ impl<K: Coeff, O: Order> Division<K, O> {
         ensures value { IfOk result (λ d. d ≡ record { dividend = h.now; quotients = replicate count empty; remainder = empty; sugar = sugar }) }
         ensures polynomial { OnOk result (IsPolynomial K.field h.now) }
     {
-        let mut quotients = Vec::with_capacity(alloc, count)?;
-        for _ in 0..count {
-            quotients.push(Poly::zero(alloc))?;
-        }
         Ok(Division {
             left: h.copy(alloc)?,
             moved: 0,
-            quotients,
+            quotients: zero_row(alloc, count)?,
             sugar,
         })
     }
