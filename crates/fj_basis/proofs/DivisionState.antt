@@ -1,5 +1,6 @@
 -- What is seen of a division's fields, and how its steps change it.
 use Rattle.std.proofs.Common.{◌≡◌, ◌≢◌, ℕ, suc, ◌+◌, ◌^◌, ◌<◌, ◌≤◌, max, List, [], ◌∷◌, ◌++◌, length, take, get_or, set, All, IsTrue, Ordering, Less, Equal, Greater, Some, None, Option, true, is_some, slice_get, unwrap_or, refl, sym, ap, ap₂, ◌∙◌, subst, arith, ⊎_elim}
+use Rattle.std.specs.Option.{option_map}
 use Rattle.std.specs.FinMap.{empty, len, len-empty}
 use Rattle.std.proofs.lemmas.Option.{slice_get-get_or, same_Some, none-some}
 use Rattle.std.proofs.lemmas.List.{nil_from_length}
@@ -37,6 +38,10 @@ seen-start L O P quotients sugar = λ i. record { dividend = back-whole L O P i;
 pub lead-parts : (key : List ℕ → List ℕ) (f : Polynomial) (t : List ℕ × ℕ) → lead key f ≡ Some t → (lead_exponents key f ≡ t.0) × (lead_coefficient key f ≡ t.1)
 unfolding lead_exponents lead_coefficient
 lead-parts key f t e = (ap (λ o. (unwrap_or {T = List ℕ × ℕ} o (origin, 0)).0) e, ap (λ o. (unwrap_or {T = List ℕ × ℕ} o (origin, 0)).1) e)
+
+pub some_from_map : {A B : Type 0} (f : A → B) (o : Option A) (r : Option B) → option_map f o ≡ r → is_some r ≡ true → is_some o ≡ true
+some_from_map f (Some x) r e h = refl
+some_from_map f None r e h = absurd (let z = ap is_some e in cc)
 
 -- A polynomial that isn't zero has a lead.
 pub lead-some : {F : Field} {key : List ℕ → List ℕ} (O : IsMonomialOrder key) {f : Polynomial} → IsPolynomial F f → f ≢ empty → is_some (lead key f) ≡ true

@@ -2,3 +2,4 @@ pub mod Left
 pub mod Multiples
 pub mod DivisionState
 pub mod Faults
+pub mod FirstDivisor

@@ -174,13 +174,13 @@ impl<K: Coeff, O: Order> Division<K, O> {
 
 // The place of the first member whose lead divides the monomial.
 fn first_divisor<K: Coeff, O: Order, D: Divisor<K, O>>(list: &[D], m: &Mono) -> Option<usize>
+    requires { All (λ g. (D.sugared g).polynomial ≢ empty) list.now }
     ensures { result ≡ first_divisor O.key (map D.sugared list.now) m.now.exponents }
 {
-    for k in 0..list.len() {
-        if let Some((_, lead)) = list[k].polynomial().lead() {
-            if lead.divides(m) {
-                return Some(k);
-            }
+    for (k, g) in list.iter().enumerate() {
+        let (_, lead) = g.polynomial().lead().unwrap();
+        if lead.divides(m) {
+            return Some(k);
         }
     }
     None

@@ -11,17 +11,13 @@ use Rattle.std.proofs.lemmas.List.{get_or_default}
 use Rattle.fj_theory.proofs.Field.{zero_below}
 use Rattle.fj_theory.proofs.Lead.{lead_coefficient-nonzero, lead_coefficient-below}
 use Rattle.fj_basis.proofs.Left.{IsPolynomial-back}
-use Rattle.fj_basis.proofs.DivisionState.{seen, lead-parts, lead-positive, lead-some, place_inside, seen-within, seen-cancel_lead}
+use Rattle.fj_basis.proofs.DivisionState.{seen, some_from_map, lead-parts, lead-positive, lead-some, place_inside, seen-within, seen-cancel_lead}
 use Rattle.fj_basis.proofs.Multiples.{quotient_nonzero, product_term-low}
 use Rattle.fj_poly.specs.Limit.{IsHigh}
 use Rattle.fj_poly.specs.declared.poly.Poly.{Poly}
 use Rattle.fj_basis.proofs.Faults.{not_high_at}
 use Rattle.fj_basis.proofs.division.Division.cancel_lead.Given as given
 use Rattle.fj_basis.proofs.division.Division.cancel_lead.Goals as goal
-
-some_from_map : {A B : Type 0} (f : A → B) (o : Option A) (r : Option B) → option_map f o ≡ r → is_some r ≡ true → is_some o ≡ true
-some_from_map f (Some x) r e h = refl
-some_from_map f None r e h = absurd (let z = ap is_some e in cc)
 
 pub unwrap-d-requires : goal.unwrap-d-requires
 unwrap-d-requires g c = some_from_map _ c.lead.result _ c.lead.ensures.lead (lead-some g.met.O.Order.monomial_order c.lead.ensures.polynomial c.requires.nonzero)
