@@ -5,3 +5,5 @@ pub mod Faults
 pub mod FirstDivisor
 pub mod UnderWay
 pub mod DivisionSteps
+pub mod Height
+pub mod Reached
