@@ -8,3 +8,4 @@ pub mod DivisionSteps
 pub mod Height
 pub mod Reached
 pub mod Places
+pub mod Leading

@@ -138,8 +138,7 @@ impl<K: Coeff, O: Order> Run<K, O> {
 
     // The S-polynomial of a pair, with its sugar.
     fn s_polynomial(&self, alloc: Global, pair: &Pair<O>) -> Result<(Poly<K, O>, u64), PolyFault>
-        requires nonzero { All (λ m. m.polynomial ≢ empty) self.now.members.items }
-        requires within { AreWithinSugars (sugared_members self.now.members.items) }
+        requires state { IsState K.field O.key self.now }
         requires pair { IsPairOf O.key (sugared_members self.now.members.items) pair.now }
         requires first { pair.now.i < length self.now.members.items }
         requires second { pair.now.j < length self.now.members.items }
@@ -173,9 +172,8 @@ impl<K: Coeff, O: Order> Run<K, O> {
 
     // The multiple of a member whose lead is the monomial.
     fn multiple_of(&self, alloc: Global, k: usize, m: &Mono) -> Result<Poly<K, O>, PolyFault>
+        requires state { IsState K.field O.key self.now }
         requires place { k < length self.now.members.items }
-        requires nonzero { All (λ m. m.polynomial ≢ empty) self.now.members.items }
-        requires within { AreWithinSugars (sugared_members self.now.members.items) }
         requires divisor { IsTrue (divides (lead_of O.key (sugared_members self.now.members.items) k) m.now.exponents) }
         requires low { (member_at (sugared_members self.now.members.items) k).sugar - total (lead_of O.key (sugared_members self.now.members.items) k) + total m.now.exponents ≤ degree_limit }
         ensures value { IfOk result (λ f. f ≡ product K.field (term 1 (minus m.now.exponents (lead_of O.key (sugared_members self.now.members.items) k))) (member_at (sugared_members self.now.members.items) k).polynomial) }
