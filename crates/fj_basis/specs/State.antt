@@ -1,5 +1,5 @@
 -- The state of a run as the code keeps it.
-use Rattle.std.specs.Prelude.{◌≡◌, ◌≢◌, ◌⊎◌, ℕ, ◌<◌, ◌≤◌, List, [], map, length, replicate, slice_index_or, All, Any, Contains, Option, MatchOption}
+use Rattle.std.specs.Prelude.{◌≡◌, ◌≢◌, ◌⊎◌, ℕ, ◌<◌, ◌≤◌, List, [], map, length, replicate, slice_index_or, All, Contains, Option, MatchOption}
 use Rattle.std.specs.FinMap.{empty}
 use Rattle.fj_coeff.specs.Field.{Field}
 use Rattle.fj_theory.specs.Exponents.{origin, minus}
@@ -22,7 +22,7 @@ pub record IsPairOf {O : Type 0} (key : List ℕ → List ℕ) (G : List Sugared
 -- The pairs of the list are the pending ones.
 pub record ArePending {O : Type 0} (key : List ℕ → List ℕ) (s : definition.Run) (pairs : List (Pair O)) : Type 0 where
   pub sound : All (λ p. IsPairOf key s.members p × Contains s.pending (p.i, p.j)) pairs
-  pub complete : (pair : ℕ × ℕ) → Contains s.pending pair → Any (λ p. (p.i ≡ pair.0) × (p.j ≡ pair.1)) pairs
+  pub complete : (pair : ℕ × ℕ) → Contains s.pending pair → (p : Pair O) × Contains pairs p × (p.i ≡ pair.0) × (p.j ≡ pair.1)
 
 -- The run on the list L, after this number of turns.
 pub record IsAfter {K O : Type 0} (F : Field) (key : List ℕ → List ℕ) (L : List Polynomial) (turns : ℕ) (s : Run K O) : Type 0 where
@@ -36,7 +36,7 @@ pub record IsAfter {K O : Type 0} (F : Field) (key : List ℕ → List ℕ) (L :
 -- The pairs of the place j with those before it have come to be pending.
 pub record HasPairsWith {O : Type 0} (key : List ℕ → List ℕ) (G : List Sugared) (j : ℕ) (before after : List (Pair O)) : Type 0 where
   pub kept : All (Contains after) before
-  pub new : (i : ℕ) → i < j → Any (λ p. (p.i ≡ i) × (p.j ≡ j)) after
+  pub new : (i : ℕ) → i < j → (p : Pair O) × Contains after p × (p.i ≡ i) × (p.j ≡ j)
   pub sound : All (λ p. Contains before p ⊎ (IsPairOf key G p × (p.i < j) × (p.j ≡ j))) after
 
 -- The cofactors of an S-polynomial, less the members' cofactors times the quotients of its division.
