@@ -3,3 +3,6 @@ pub mod Multiples
 pub mod DivisionState
 pub mod Faults
 pub mod FirstDivisor
+pub mod Gathered
+pub mod Rows
+pub mod Subtracted
