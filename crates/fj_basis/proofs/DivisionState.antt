@@ -52,6 +52,15 @@ lead-some {key = key} O {f} P some = go (terms_falling key f) refl
     go [] e = absurd (some (sym (from_entries-terms_falling O P) ∙ ap polynomial_of e))
     go (t ∷ ts) e = refl
 
+-- A polynomial without a lead is zero.
+pub lead-none : {F : Field} {key : List ℕ → List ℕ} (O : IsMonomialOrder key) {f : Polynomial} → IsPolynomial F f → lead key f ≡ None → f ≡ empty
+unfolding lead
+lead-none {key = key} O {f} P e = go (terms_falling key f) refl
+  where
+    go : (ts : List (List ℕ × ℕ)) → terms_falling key f ≡ ts → f ≡ empty
+    go [] k = sym (from_entries-terms_falling O P) ∙ ap polynomial_of k
+    go (t ∷ ts) k = absurd (let z : None ≡ Some t = sym e ∙ ap (λ us. slice_get us 0) k in none-some t z)
+
 -- A polynomial with a lead isn't zero, and its leading coefficient isn't.
 pub some-lead : (F : Field) {key : List ℕ → List ℕ} (O : IsMonomialOrder key) {f : Polynomial} {t : List ℕ × ℕ} → lead key f ≡ Some t → f ≢ empty
 unfolding lead

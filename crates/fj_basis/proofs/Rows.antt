@@ -28,7 +28,7 @@ nothing g e (x ∷ xs) = ap₂ ◌++◌ (e x) (nothing g e xs)
 support_empty : support empty ≡ []
 support_empty = ap (map (λ (e : List ℕ × ℕ). e.0)) (nil_from_length (entries empty) (sym (len-entries empty) ∙ len-empty (slice_cmp nat_cmp) ℕ))
 
-without : (c : List ℕ → ℕ) (xs : List (List ℕ)) → xs ≡ [] → with_coefficients c as ≡ empty
+without : (c : List ℕ → ℕ) (xs : List (List ℕ)) → xs ≡ [] → with_coefficients c xs ≡ empty
 unfolding with_coefficients
 without c xs e = ap (with_coefficients c) e
 

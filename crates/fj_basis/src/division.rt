@@ -1,19 +1,21 @@
-ghost use Rattle.std.specs.Prelude.{◌≡◌, ◌≢◌, ◌+◌, ◌<◌, ◌≤◌, IfOk, IsTrue, OnOk, All, length, map, position, replicate, slice_index_or};
+ghost use Rattle.std.specs.Prelude.{◌≡◌, ◌≢◌, ◌+◌, ◌<◌, ◌≤◌, IfOk, IsTrue, OnOk, All, length, map, replicate, slice_index_or};
 ghost use Rattle.std.specs.Option.{option_map};
 ghost use Rattle.std.specs.FinMap.{empty};
 ghost use Rattle.std.specs.declared.cmp.Ordering.TheVariants.{Greater};
 ghost use Rattle.fj_theory.specs.Exponents.{divides, minus, total};
 ghost use Rattle.fj_theory.specs.MonomialOrder.{compare_by};
-ghost use Rattle.fj_theory.specs.Ideal.{ArePolynomials};
-ghost use Rattle.fj_theory.specs.Polynomial.{IsPolynomial, lead, terms_falling};
+ghost use Rattle.fj_theory.specs.Ideal.{ArePolynomials, list_combination};
+ghost use Rattle.fj_theory.specs.Polynomial.{IsPolynomial, lead, sum, terms_falling};
+ghost use Rattle.fj_theory.specs.DegreeOrder.{IsDegreeOrder};
 ghost use Rattle.fj_theory.specs.Lead.{lead_exponents};
 ghost use Rattle.fj_theory.specs.Division.{AreWithinSugars, DegreeAtMost, IsDivisionStep, IsHighDivision, IsLowDivision, cancel_lead, degree_limit, first_divisor, move_lead, polynomials_of, step_by};
 ghost use Rattle.fj_theory.specs.Run.{given};
 ghost use Rattle.fj_poly.specs.Limit.{IsHighWhere};
-ghost use Rattle.fj_basis.specs.Quotients.{AreAbove, IsDivided};
+ghost use Rattle.fj_basis.specs.Quotients.{IsDivided, IsUnderWay};
 
 use crate::cofactors::zero_row;
 use crate::divisor::Divisor;
+use crate::handed::{look_over, sugar_of};
 use fj_coeff::Coeff;
 use fj_mono::{DEGREE_LIMIT, Mono, Order};
 use fj_poly::{Poly, PolyFault};
@@ -129,16 +131,19 @@ impl<K: Coeff, O: Order> Division<K, O> {
         list: &[D],
     ) -> Result<(), PolyFault>
         requires lead { lead O.key self.old.dividend ≡ Some (m.now.exponents, K.rank c) }
-        requires nonzero { All (λ g. (D.sugared g).polynomial ≢ empty) list.now }
-        requires quotients { length self.old.quotients ≡ length list.now }
+        requires polynomials { ArePolynomials K.field (polynomials_of (map D.sugared list.now)) }
+        requires nonzero { All (λ f. f ≢ empty) (polynomials_of (map D.sugared list.now)) }
         requires within { AreWithinSugars (map D.sugared list.now) }
-        requires above { AreAbove O.key (map D.sugared list.now) self.old }
+        requires state { IsUnderWay K.field O.key (map D.sugared list.now) self.old }
         requires low { self.old.sugar ≤ degree_limit }
         ensures step { OnOk result (IsDivisionStep K.field O.key (map D.sugared list.now) self.old self.new) }
         ensures high { IsHighWhere (degree_limit < (step_by K.field O.key (map D.sugared list.now) (first_divisor O.key (map D.sugared list.now) m.now.exponents) self.old).sugar) result }
     {
         match first_divisor(list, m) {
-            Some(k) => self.cancel_lead(alloc, c, m, k, list[k].polynomial(), list[k].sugar()),
+            Some(k) => {
+                let g = &list[k];
+                self.cancel_lead(alloc, c, m, k, g.polynomial(), g.sugar())
+            }
             None => {
                 self.move_lead();
                 Ok(())
@@ -193,9 +198,10 @@ pub(crate) fn divide_sugared<K: Coeff, O: Order, D: Divisor<K, O>>(
     sugar: u64,
     list: &[D],
 ) -> Result<Division<K, O>, PolyFault>
-    requires nonzero { All (λ g. (D.sugared g).polynomial ≢ empty) list.now }
     requires polynomials { ArePolynomials K.field (polynomials_of (map D.sugared list.now)) }
+    requires nonzero { All (λ f. f ≢ empty) (polynomials_of (map D.sugared list.now)) }
     requires within { AreWithinSugars (map D.sugared list.now) }
+    requires bound { DegreeAtMost sugar h.now }
     requires low { sugar ≤ degree_limit }
     ensures value { IfOk result (IsLowDivision K.field O.key (map D.sugared list.now) (record { polynomial = h.now; sugar = sugar })) }
     ensures high { IsHighWhere (IsHighDivision K.field O.key (map D.sugared list.now) (record { polynomial = h.now; sugar = sugar })) result }
@@ -221,9 +227,13 @@ pub fn divide<K: Coeff, O: Order>(
 ) -> Result<(Vec<Poly<K, O>>, Poly<K, O>), PolyFault>
     requires { All (λ g. g ≢ empty) list.now }
     ensures value { IfOk result (λ r. IsDivided K.field O.key (map given list.now) (given h.now) r.0.items r.1) }
+    ensures identity { IfOk result (λ r. h.now ≡ sum K.field (list_combination K.field r.0.items list.now) r.1) }
+    ensures long { IfOk result (λ r. length r.0.items ≡ length list.now) }
     ensures high { IsHighWhere (IsHighDivision K.field O.key (map given list.now) (given h.now)) result }
+    ensures degree_order { IsDegreeOrder O.key → IsHighWhere ⊥ result }
 {
-    let division = divide_sugared(alloc, h, h.sugar(), list)?;
+    look_over(list);
+    let division = divide_sugared(alloc, h, sugar_of(h), list)?;
     let (quotients, remainder, _) = division.into_parts();
     Ok((quotients, remainder))
 }
