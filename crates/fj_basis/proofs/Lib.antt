@@ -6,6 +6,7 @@ pub mod FirstDivisor
 pub mod Gathered
 pub mod Rows
 pub mod Subtracted
+pub mod FinishingActs
 pub mod UnderWay
 pub mod DivisionSteps
 pub mod Height

@@ -2,7 +2,7 @@ ghost use Rattle.std.specs.Prelude.{◌≡◌, ◌≢◌, ◌<◌, ◌≤◌, �
 ghost use Rattle.std.specs.List.{range_with_len};
 ghost use Rattle.std.specs.FinMap.{empty};
 ghost use Rattle.fj_theory.specs.Ideal.{ArePolynomials};
-ghost use Rattle.fj_theory.specs.Polynomial.{Polynomial};
+ghost use Rattle.fj_theory.specs.Polynomial.{IsPolynomial, Polynomial};
 ghost use Rattle.fj_theory.specs.Division.{AreWithinSugars, DegreeAtMost, IsHighDivision, degree_limit, polynomials_of};
 ghost use Rattle.fj_theory.specs.Run.{IsReplacing, given, is_left_out, kept_members, place_by_lead, sort_by_lead};
 ghost use Rattle.fj_basis.specs.Finished.{AreMembersOfRun, AreQuotients, IsHighReplacing, IsQuotients, IsReplacementOf};
@@ -11,7 +11,7 @@ ghost use Rattle.fj_basis.specs.Outcome.{IsHighOnlyWhere};
 
 use crate::cofactors::subtract_multiples;
 use crate::division::divide_sugared;
-use crate::divisor::Divisor;
+use crate::handed::sugar_of;
 use crate::members::{Member, Row};
 use fj_coeff::Coeff;
 use fj_mono::Order;
@@ -124,9 +124,10 @@ fn replacement<K: Coeff, O: Order>(
     member: Member<K, O>,
     replaced: &[Member<K, O>],
 ) -> Result<Member<K, O>, PolyFault>
-    requires nonzero { All (λ m. m.polynomial ≢ empty) replaced.now }
     requires polynomials { ArePolynomials K.field (polynomials_of (sugared_members replaced.now)) }
+    requires nonzero { All (λ f. f ≢ empty) (polynomials_of (sugared_members replaced.now)) }
     requires within { AreWithinSugars (sugared_members replaced.now) }
+    requires polynomial { IsPolynomial K.field member.polynomial }
     requires rows { All (λ m. IsRowWithin K.field m.sugar (length member.row.items) m.row.items) replaced.now }
     requires bound { DegreeAtMost member.sugar member.polynomial }
     requires low { member.sugar ≤ degree_limit }
@@ -151,8 +152,8 @@ pub(crate) fn given_rows<K: Coeff, O: Order>(
     list: &[Poly<K, O>],
     basis: &[Member<K, O>],
 ) -> Result<Vec<Row<K, O>>, PolyFault>
-    requires nonzero { All (λ m. m.polynomial ≢ empty) basis.now }
     requires polynomials { ArePolynomials K.field (polynomials_of (sugared_members basis.now)) }
+    requires nonzero { All (λ f. f ≢ empty) (polynomials_of (sugared_members basis.now)) }
     requires within { AreWithinSugars (sugared_members basis.now) }
     ensures rows { IfOk result (λ rows. AreQuotients K.field O.key (sugared_members basis.now) list.now (map (λ row. row.items) rows.items)) }
     ensures high { IsHighOnlyWhere (Any (λ f. IsHighDivision K.field O.key (sugared_members basis.now) (given f)) list.now) result }
@@ -171,13 +172,13 @@ fn given_row<K: Coeff, O: Order>(
     f: &Poly<K, O>,
     basis: &[Member<K, O>],
 ) -> Result<Row<K, O>, PolyFault>
-    requires nonzero { All (λ m. m.polynomial ≢ empty) basis.now }
     requires polynomials { ArePolynomials K.field (polynomials_of (sugared_members basis.now)) }
+    requires nonzero { All (λ f. f ≢ empty) (polynomials_of (sugared_members basis.now)) }
     requires within { AreWithinSugars (sugared_members basis.now) }
     ensures row { IfOk result (λ row. IsQuotients K.field O.key (sugared_members basis.now) f.now row.items) }
     ensures high { IsHighOnlyWhere (IsHighDivision K.field O.key (sugared_members basis.now) (given f.now)) result }
 {
-    let division = divide_sugared(alloc, f, f.sugar(), basis)?;
+    let division = divide_sugared(alloc, f, sugar_of(f), basis)?;
     let (quotients, _, _) = division.into_parts();
     Ok(quotients)
 }
