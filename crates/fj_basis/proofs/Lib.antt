@@ -6,7 +6,9 @@ pub mod FirstDivisor
 pub mod Gathered
 pub mod Rows
 pub mod Subtracted
+pub mod HighOnly
 pub mod FinishingActs
+pub mod FinishingRows
 pub mod UnderWay
 pub mod DivisionSteps
 pub mod Height

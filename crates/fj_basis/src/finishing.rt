@@ -1,6 +1,7 @@
-ghost use Rattle.std.specs.Prelude.{◌≡◌, ◌≢◌, ◌<◌, ◌≤◌, ◌++◌, ◌∷◌, [], List, IfOk, OnOk, All, Any, Contains, length, map};
+ghost use Rattle.std.specs.Prelude.{◌≡◌, ◌≢◌, ◌<◌, ◌≤◌, ◌++◌, ◌∷◌, ◌&&◌, ◌||◌, not, [], List, IfOk, OnOk, All, Any, Contains, length, map};
 ghost use Rattle.std.specs.List.{range_with_len};
 ghost use Rattle.std.specs.FinMap.{empty};
+ghost use Rattle.fj_theory.specs.Exponents.{divides};
 ghost use Rattle.fj_theory.specs.Ideal.{ArePolynomials};
 ghost use Rattle.fj_theory.specs.Polynomial.{IsPolynomial, Polynomial};
 ghost use Rattle.fj_theory.specs.Division.{AreWithinSugars, DegreeAtMost, IsHighDivision, degree_limit, polynomials_of};
@@ -14,10 +15,17 @@ use crate::division::divide_sugared;
 use crate::handed::sugar_of;
 use crate::members::{Member, Row};
 use fj_coeff::Coeff;
-use fj_mono::Order;
+use fj_mono::{Mono, Order};
 use fj_poly::{Poly, PolyFault};
 use std::alloc::{AllocError, Global};
 use std::cmp::Ordering;
+
+// Whether a lead makes another one superfluous, being before it or not.
+fn makes_superfluous(other: &Mono, own: &Mono, is_before: bool) -> bool
+    ensures { result ≡ (divides other.now.exponents own.now.exponents && (not (divides own.now.exponents other.now.exponents) || is_before)) }
+{
+    other.divides(own) && (!own.divides(other) || is_before)
+}
 
 // The first act: whether a member is left out, since the lead of another divides its lead. Of members with equal leads
 // the first is kept.
@@ -28,8 +36,7 @@ fn is_left_out<K: Coeff, O: Order>(members: &[Member<K, O>], i: usize) -> bool
 {
     let own = members[i].lead();
     for j in 0..members.len() {
-        let other = members[j].lead();
-        if other.divides(&own) && (!own.divides(&other) || j < i) {
+        if makes_superfluous(&members[j].lead(), &own, j < i) {
             return true;
         }
     }
@@ -79,10 +86,10 @@ fn sorted_by_lead<K: Coeff, O: Order>(
     ensures value { IfOk result (λ sorted. sugared_members sorted.items ≡ sort_by_lead O.key (kept_members O.key (sugared_members members.items))) }
     ensures among { IfOk result (λ sorted. All (Contains members.items) sorted.items) }
 {
-    let mut out = left_out(alloc, &members)?;
+    let out = left_out(alloc, &members)?;
     let mut sorted = Vec::new(alloc);
-    while let (Some(member), Some(is_out)) = (members.pop(), out.pop()) {
-        if !is_out {
+    while let Some(member) = members.pop() {
+        if !out[members.len()] {
             place_by_lead(&mut sorted, member)?;
         }
     }
