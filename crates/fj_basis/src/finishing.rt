@@ -1,8 +1,9 @@
-ghost use Rattle.std.specs.Prelude.{◌≡◌, ◌≢◌, ◌<◌, ◌≤◌, ◌++◌, ◌∷◌, [], List, IfOk, OnOk, All, Any, Contains, length, map};
+ghost use Rattle.std.specs.Prelude.{◌≡◌, ◌≢◌, ◌<◌, ◌≤◌, ◌++◌, ◌∷◌, ◌&&◌, ◌||◌, not, [], List, IfOk, OnOk, All, Any, Contains, length, map};
 ghost use Rattle.std.specs.List.{range_with_len};
 ghost use Rattle.std.specs.FinMap.{empty};
+ghost use Rattle.fj_theory.specs.Exponents.{divides};
 ghost use Rattle.fj_theory.specs.Ideal.{ArePolynomials};
-ghost use Rattle.fj_theory.specs.Polynomial.{Polynomial};
+ghost use Rattle.fj_theory.specs.Polynomial.{IsPolynomial, Polynomial};
 ghost use Rattle.fj_theory.specs.Division.{AreWithinSugars, DegreeAtMost, IsHighDivision, degree_limit, polynomials_of};
 ghost use Rattle.fj_theory.specs.Run.{IsReplacing, given, is_left_out, kept_members, place_by_lead, sort_by_lead};
 ghost use Rattle.fj_basis.specs.Finished.{AreMembersOfRun, AreQuotients, IsHighReplacing, IsQuotients, IsReplacementOf};
@@ -11,13 +12,20 @@ ghost use Rattle.fj_basis.specs.Outcome.{IsHighOnlyWhere};
 
 use crate::cofactors::subtract_multiples;
 use crate::division::divide_sugared;
-use crate::divisor::Divisor;
+use crate::handed::sugar_of;
 use crate::members::{Member, Row};
 use fj_coeff::Coeff;
-use fj_mono::Order;
+use fj_mono::{Mono, Order};
 use fj_poly::{Poly, PolyFault};
 use std::alloc::{AllocError, Global};
 use std::cmp::Ordering;
+
+// Whether a lead makes another one superfluous, being before it or not.
+fn makes_superfluous(other: &Mono, own: &Mono, is_before: bool) -> bool
+    ensures { result ≡ (divides other.now.exponents own.now.exponents && (not (divides own.now.exponents other.now.exponents) || is_before)) }
+{
+    other.divides(own) && (!own.divides(other) || is_before)
+}
 
 // The first act: whether a member is left out, since the lead of another divides its lead. Of members with equal leads
 // the first is kept.
@@ -28,8 +36,7 @@ fn is_left_out<K: Coeff, O: Order>(members: &[Member<K, O>], i: usize) -> bool
 {
     let own = members[i].lead();
     for j in 0..members.len() {
-        let other = members[j].lead();
-        if other.divides(&own) && (!own.divides(&other) || j < i) {
+        if makes_superfluous(&members[j].lead(), &own, j < i) {
             return true;
         }
     }
@@ -79,10 +86,10 @@ fn sorted_by_lead<K: Coeff, O: Order>(
     ensures value { IfOk result (λ sorted. sugared_members sorted.items ≡ sort_by_lead O.key (kept_members O.key (sugared_members members.items))) }
     ensures among { IfOk result (λ sorted. All (Contains members.items) sorted.items) }
 {
-    let mut out = left_out(alloc, &members)?;
+    let out = left_out(alloc, &members)?;
     let mut sorted = Vec::new(alloc);
-    while let (Some(member), Some(is_out)) = (members.pop(), out.pop()) {
-        if !is_out {
+    while let Some(member) = members.pop() {
+        if !out[members.len()] {
             place_by_lead(&mut sorted, member)?;
         }
     }
@@ -124,9 +131,10 @@ fn replacement<K: Coeff, O: Order>(
     member: Member<K, O>,
     replaced: &[Member<K, O>],
 ) -> Result<Member<K, O>, PolyFault>
-    requires nonzero { All (λ m. m.polynomial ≢ empty) replaced.now }
     requires polynomials { ArePolynomials K.field (polynomials_of (sugared_members replaced.now)) }
+    requires nonzero { All (λ f. f ≢ empty) (polynomials_of (sugared_members replaced.now)) }
     requires within { AreWithinSugars (sugared_members replaced.now) }
+    requires polynomial { IsPolynomial K.field member.polynomial }
     requires rows { All (λ m. IsRowWithin K.field m.sugar (length member.row.items) m.row.items) replaced.now }
     requires bound { DegreeAtMost member.sugar member.polynomial }
     requires low { member.sugar ≤ degree_limit }
@@ -151,8 +159,8 @@ pub(crate) fn given_rows<K: Coeff, O: Order>(
     list: &[Poly<K, O>],
     basis: &[Member<K, O>],
 ) -> Result<Vec<Row<K, O>>, PolyFault>
-    requires nonzero { All (λ m. m.polynomial ≢ empty) basis.now }
     requires polynomials { ArePolynomials K.field (polynomials_of (sugared_members basis.now)) }
+    requires nonzero { All (λ f. f ≢ empty) (polynomials_of (sugared_members basis.now)) }
     requires within { AreWithinSugars (sugared_members basis.now) }
     ensures rows { IfOk result (λ rows. AreQuotients K.field O.key (sugared_members basis.now) list.now (map (λ row. row.items) rows.items)) }
     ensures high { IsHighOnlyWhere (Any (λ f. IsHighDivision K.field O.key (sugared_members basis.now) (given f)) list.now) result }
@@ -171,13 +179,13 @@ fn given_row<K: Coeff, O: Order>(
     f: &Poly<K, O>,
     basis: &[Member<K, O>],
 ) -> Result<Row<K, O>, PolyFault>
-    requires nonzero { All (λ m. m.polynomial ≢ empty) basis.now }
     requires polynomials { ArePolynomials K.field (polynomials_of (sugared_members basis.now)) }
+    requires nonzero { All (λ f. f ≢ empty) (polynomials_of (sugared_members basis.now)) }
     requires within { AreWithinSugars (sugared_members basis.now) }
     ensures row { IfOk result (λ row. IsQuotients K.field O.key (sugared_members basis.now) f.now row.items) }
     ensures high { IsHighOnlyWhere (IsHighDivision K.field O.key (sugared_members basis.now) (given f.now)) result }
 {
-    let division = divide_sugared(alloc, f, f.sugar(), basis)?;
+    let division = divide_sugared(alloc, f, sugar_of(f), basis)?;
     let (quotients, _, _) = division.into_parts();
     Ok(quotients)
 }
