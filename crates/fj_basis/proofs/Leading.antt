@@ -1,11 +1,11 @@
 -- Members of a run, their leads and their multiples.
-use Rattle.std.proofs.Common.{◌≡◌, ◌≢◌, ℕ, suc, ◌+◌, ◌-◌, ◌^◌, ◌<◌, ◌≤◌, max, List, [], ◌∷◌, length, get_or, map, All, IsTrue, Option, Some, None, Result, Ok, Err, refl, sym, ap, ap₂, ◌∙◌, subst, subst₂, arith}
+use Rattle.std.proofs.Common.{◌≡◌, ◌≢◌, ℕ, suc, ◌+◌, ◌-◌, ◌^◌, ◌<◌, ◌≤◌, max, List, [], ◌∷◌, ◌++◌, length, length-append, get_or, map, All, IsTrue, Option, Some, None, is_some, true, Result, Ok, Err, refl, sym, ap, ap₂, ◌∙◌, subst, subst₂, arith}
 use Rattle.std.specs.FinMap.{empty}
-use Rattle.std.proofs.lemmas.List.{length-map}
+use Rattle.std.proofs.lemmas.List.{length-map, get_or-map, get_or_append_left, get_or_push}
 use Rattle.std.proofs.lemmas.List.Elements.{All-map, All-weaker}
 use Rattle.fj_algebra.proofs.Lists.{All-map_back}
 use Rattle.fj_coeff.specs.Field.{Field, IsField}
-use Rattle.fj_theory.specs.Exponents.{IsExponents, total, minus, divides}
+use Rattle.fj_theory.specs.Exponents.{IsExponents, total, minus, divides, least_common_multiple}
 use Rattle.fj_theory.specs.MonomialOrder.{IsMonomialOrder}
 use Rattle.fj_theory.specs.Polynomial.{Polynomial, IsPolynomial, coefficient, product, term}
 use Rattle.fj_theory.specs.Ideal.{ArePolynomials}
@@ -20,13 +20,16 @@ use Rattle.fj_theory.proofs.Lead.{IsExponents-lead, coefficient-lead, lead_coeff
 use Rattle.fj_theory.proofs.Multiple.{divides-least_common_multiple_left, divides-least_common_multiple_right}
 use Rattle.fj_theory.proofs.Run.{IsRun-IsKept, IsRun-polynomials, IsRun-monic, s_polynomial-IsPolynomial}
 use Rattle.fj_theory.proofs.Sugar.{IsRun-AreWithinSugars, s_polynomial-DegreeAtMost}
+use Rattle.fj_mono.specs.Monomial.{Monomial}
 use Rattle.fj_poly.specs.Limit.{IsHigh, IsHighWhere}
 use Rattle.fj_poly.specs.declared.fault.PolyFault.{PolyFault}
 use Rattle.fj_poly.specs.declared.fault.PolyFault.TheVariants.{High, Memory}
 use Rattle.fj_basis.specs.declared.members.Member.{Member}
-use Rattle.fj_basis.specs.Members.{sugared, sugared_members}
+use Rattle.fj_basis.specs.Members.{sugared, sugared_members, IsTraced}
 use Rattle.fj_basis.specs.declared.run.Run.{Run}
-use Rattle.fj_basis.specs.State.{IsState}
+use Rattle.fj_basis.specs.State.{IsState, IsPairOf, row_at}
+use Rattle.fj_basis.specs.Place.{IsWithinLimit}
+use Rattle.fj_basis.specs.declared.pairs.Pair.{Pair}
 use Rattle.fj_basis.specs.Outcome.{IsHighOnlyWhere}
 use Rattle.fj_basis.proofs.DivisionSteps.{member_at-map}
 use Rattle.fj_basis.proofs.Multiples.{product_term-low}
@@ -106,6 +109,16 @@ module _ {F : Field} (L : IsField F) {key : List ℕ → List ℕ} (O : IsMonomi
     unfolding pair_multiple
     second-divides i j l m = divides-least_common_multiple_right _ _ ((lead-exponents i l).eight ∙ sym (lead-exponents j m).eight)
 
+    -- The products with the cofactors of a member are not high either.
+    pub row-low : (k : ℕ) → k < length G → (m : List ℕ) → IsExponents m → IsTrue (divides (lead_of key G k) m)
+        → ((member_at G k).sugar - total (lead_of key G k)) + total m ≤ degree_limit → (c : ℕ) → c < F.size → (row : List Polynomial) → ArePolynomials F row
+        → All (DegreeAtMost (member_at G k).sugar) row → All (λ y. IsHigh (product F (term c (minus m (lead_of key G k))) y) → ⊥) row
+    row-low k l m M d low c h row are within i e n =
+        let B = lead-exponents k l in
+        let whole = sym (total-plus_exponents B (IsExponents-minus M B)) ∙ ap total (plus-minus B M d) in
+        let bound = lead-total k l in
+        product_term-low L (are.each i e n) c h (IsExponents-minus M B) (member_at G k).sugar (within i e n) (omega (arith, whole, bound, low))
+
   -- The members of a state are good.
   pub state-good : {K R : Type 0} {s : Run K R} → IsState F key s → AreGood F key (sugared_members s.members.items)
   state-good h = subst (AreGood F key) h.after.members (IsRun-AreGood h.after.given h.after.run)
@@ -122,12 +135,47 @@ lead_of-is key members k m l is = ap (λ x. lead_exponents key x.polynomial) (me
 pub nonzero_at : {K R : Type 0} (members : List (Member K R)) → All (λ m. m.polynomial ≢ empty) members → (k : ℕ) (m : Member K R) → k < length members → m ≡ get_or members k m → m.polynomial ≢ empty
 nonzero_at members all k m l is e = all k m l (ap (λ x. x.polynomial) (sym is) ∙ e)
 
+pub traced_at : {K R : Type 0} {F : Field} {N : List Polynomial} (members : List (Member K R)) → All (IsTraced F N) members → (k : ℕ) (m : Member K R) → k < length members → m ≡ get_or members k m
+    → IsTraced F N m
+traced_at {F = F} {N = N} members all k m l is = subst (IsTraced F N) (sym is) (all k m l)
+
+-- The cofactors of the member at a place.
+pub row_at-is : {K R : Type 0} (members : List (Member K R)) (k : ℕ) (m : Member K R) → k < length members → m ≡ get_or members k m → row_at members k ≡ m.row.items
+unfolding row_at
+row_at-is members k m l is = get_or-map (λ x. x.row.items) members k m [] l ∙ ap (λ x. x.row.items) (sym is)
+
 -- The parts of an S-polynomial.
 pub s-sugar : (F : Field) (key : List ℕ → List ℕ) (G : List Sugared) (i j : ℕ)
     → (s_polynomial F key G (i, j)).sugar ≡ max ((member_at G i).sugar - total (lead_of key G i)) ((member_at G j).sugar - total (lead_of key G j)) + total (pair_multiple key G (i, j))
 unfolding s_polynomial
 s-sugar F key G i j = refl
 
+-- Where the sugar of an S-polynomial is within the limit, so is the least common multiple.
+pub some_multiple : {R : Type 0} (F : Field) (key : List ℕ → List ℕ) (G : List Sugared) (p : Pair R) → IsPairOf key G p → (s_polynomial F key G (p.i, p.j)).sugar ≤ degree_limit
+    → (o : Option Monomial) → o ≡ p.multiple → is_some o ≡ true
+some_multiple F key G p own low (Some m) e = refl
+some_multiple F key G p own low None e =
+    let high : degree_limit < total (pair_multiple key G (p.i, p.j)) = subst (IsWithinLimit (pair_multiple key G (p.i, p.j))) (sym e) own.multiple in
+    absurd (omega (arith, s-sugar F key G p.i p.j, high, low))
+
+pub multiple_is : {R : Type 0} (key : List ℕ → List ℕ) (G : List Sugared) (p : Pair R) → IsPairOf key G p → (m : Monomial) → Some m ≡ p.multiple → m.exponents ≡ pair_multiple key G (p.i, p.j)
+multiple_is key G p own m e = subst (IsWithinLimit (pair_multiple key G (p.i, p.j))) (sym e) own.multiple
+
+-- The pair of a member that is appended with an earlier one.
+pub pair_of-appended : {K R : Type 0} (key : List ℕ → List ℕ) (members : List (Member K R)) (new m : Member K R) (i : ℕ) (p : Pair R) → i < length members → m ≡ get_or members i m
+    → p.i ≡ i → p.j ≡ length members → IsWithinLimit (least_common_multiple (lead_exponents key m.polynomial) (lead_exponents key new.polynomial)) p.multiple
+    → IsPairOf key (sugared_members (members ++ new ∷ [])) p
+unfolding pair_multiple
+pair_of-appended key members new m i p l is is_i is_j within =
+    let long = length-append members (new ∷ []) in
+    let first = lead_of-is key (members ++ new ∷ []) i m (omega (arith, l, long)) (is ∙ sym (get_or_append_left members (new ∷ []) m i l)) in
+    let second = lead_of-is key (members ++ new ∷ []) (length members) new (omega (arith, long)) (sym (get_or_push members new new (length members) refl)) in
+    record {
+      multiple = subst (λ a. IsWithinLimit a p.multiple)
+          (ap₂ least_common_multiple (sym first ∙ ap (lead_of key (sugared_members (members ++ new ∷ []))) (sym is_i)) (sym second ∙ ap (lead_of key (sugared_members (members ++ new ∷ []))) (sym is_j))) within;
+    }
+
+-- Its polynomial.
 pub s-polynomial : (F : Field) (key : List ℕ → List ℕ) (G : List Sugared) (i j : ℕ)
     → (s_polynomial F key G (i, j)).polynomial
     ≡ difference F (product F (term 1 (minus (pair_multiple key G (i, j)) (lead_of key G i))) (member_at G i).polynomial) (product F (term 1 (minus (pair_multiple key G (i, j)) (lead_of key G j))) (member_at G j).polynomial)

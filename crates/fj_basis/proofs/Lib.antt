@@ -15,3 +15,4 @@ pub mod Height
 pub mod Reached
 pub mod Places
 pub mod Leading
+pub mod PendingSets

@@ -33,22 +33,28 @@ pub record IsAfter {K O : Type 0} (F : Field) (key : List ℕ → List ℕ) (L :
   pub pending : ArePending key state s.pending.keys
   pub traced : All (IsTraced F L) s.members.items
 
--- The pairs of the place j with those before it have come to be pending.
-pub record HasPairsWith {O : Type 0} (key : List ℕ → List ℕ) (G : List Sugared) (j : ℕ) (before after : List (Pair O)) : Type 0 where
+-- The pairs of the place j with the first n places have come to be pending.
+pub record HasPairsUpTo {O : Type 0} (key : List ℕ → List ℕ) (G : List Sugared) (j n : ℕ) (before after : List (Pair O)) : Type 0 where
   pub kept : All (Contains after) before
-  pub new : (i : ℕ) → i < j → (p : Pair O) × Contains after p × (p.i ≡ i) × (p.j ≡ j)
+  pub new : (i : ℕ) → i < n → (p : Pair O) × Contains after p × (p.i ≡ i) × (p.j ≡ j)
   pub sound : All (λ p. Contains before p ⊎ (IsPairOf key G p × (p.i < j) × (p.j ≡ j))) after
+
+-- Its pairs with all places before it.
+abbrev pub HasPairsWith : {O : Type 0} → (List ℕ → List ℕ) → List Sugared → ℕ → List (Pair O) → List (Pair O) → Type 0
+HasPairsWith key G j before after = HasPairsUpTo key G j j before after
+
+-- The cofactors of the member at a place.
+unfoldable pub row_at : {K O : Type 0} → List (Member K O) → ℕ → List Polynomial
+row_at members k = slice_index_or (map (λ m. m.row.items) members) k []
 
 -- The cofactors of an S-polynomial, less the members' cofactors times the quotients of its division.
 unfoldable pub s_polynomial_row : {K O : Type 0} → Field → (List ℕ → List ℕ) → List (Member K O) → ℕ × ℕ → List Polynomial → List Polynomial
 s_polynomial_row F key members pair quotients =
     let G = sugared_members members in
-    let rows = map (λ m. m.row.items) members in
     let factor : ℕ → ℕ → Polynomial = λ c k. term c (minus (definition.pair_multiple key G pair) (definition.lead_of key G k)) in
-    let row : ℕ → List Polynomial = λ k. slice_index_or rows k [] in
-    let first = add_multiple F (factor 1 pair.0) (replicate (length (row pair.0)) empty) (row pair.0) in
-    let second = add_multiple F (factor (F.neg 1) pair.1) first (row pair.1) in
-    add_multiples F (map (negation F) quotients) rows second
+    let first = add_multiple F (factor 1 pair.0) (replicate (length (row_at members pair.0)) empty) (row_at members pair.0) in
+    let second = add_multiple F (factor (F.neg 1) pair.1) first (row_at members pair.1) in
+    add_multiples F (map (negation F) quotients) (map (λ m. m.row.items) members) second
 
 -- The division of the S-polynomial of the pair, and the member that a remainder that isn't zero gives.
 pub record IsNextMember {K O : Type 0} (F : Field) (key : List ℕ → List ℕ) (members : List (Member K O)) (pair : ℕ × ℕ) (next : Option (Member K O)) : Type 0 where

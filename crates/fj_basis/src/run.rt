@@ -1,13 +1,15 @@
 ghost use Rattle.std.specs.Prelude.{◌≡◌, ◌≢◌, ◌+◌, ◌-◌, ◌<◌, ◌≤◌, ◌↔◌, ◌++◌, ◌∷◌, ℕ, suc, List, [], IfOk, OnOk, IsTrue, All, length};
 ghost use Rattle.std.specs.FinMap.{empty};
 ghost use Rattle.fj_theory.specs.Exponents.{divides, minus, total};
+ghost use Rattle.fj_theory.specs.Ideal.{ArePolynomials};
 ghost use Rattle.fj_theory.specs.Polynomial.{Polynomial, product, term};
-ghost use Rattle.fj_theory.specs.Division.{AreWithinSugars, IsHighDivision, degree_limit, member_at};
+ghost use Rattle.fj_theory.specs.Rows.{add_multiple};
+ghost use Rattle.fj_theory.specs.Division.{IsHighDivision, degree_limit, member_at};
 ghost use Rattle.fj_theory.specs.Run.{are_coprime, has_coprime_leads, lead_of, s_polynomial};
 ghost use Rattle.fj_basis.specs.Members.{sugared_members};
 ghost use Rattle.fj_basis.specs.Outcome.{IsHighOnlyWhere};
 ghost use Rattle.fj_basis.specs.Quotients.{AreQuotientsWithin};
-ghost use Rattle.fj_basis.specs.State.{HasPairsWith, IsAfter, IsHighNext, IsNextMember, IsPairOf, IsState, s_polynomial_row};
+ghost use Rattle.fj_basis.specs.State.{HasPairsWith, IsAfter, IsHighNext, IsNextMember, IsPairOf, IsState, row_at, s_polynomial_row};
 
 use crate::cofactors::{add_multiple, row_of_one, scale_row, subtract_multiples, zero_row};
 use crate::division::divide_sugared;
@@ -200,26 +202,34 @@ impl<K: Coeff, O: Order> Run<K, O> {
         ensures high { IsHighOnlyWhere ⊥ result }
     {
         let multiple = pair.multiple().unwrap();
-        let first = &self.members[pair.first()].row;
-        let second = &self.members[pair.second()].row;
-        let mut row = zero_row(alloc, first.len())?;
-        let factor = multiple.quot(&self.members[pair.first()].lead());
-        add_multiple(
-            alloc,
-            &mut row,
-            &Poly::term(alloc, K::one(), &factor)?,
-            first,
-        )?;
-        let factor = multiple.quot(&self.members[pair.second()].lead());
-        let minus_one = K::one().neg();
-        add_multiple(
-            alloc,
-            &mut row,
-            &Poly::term(alloc, minus_one, &factor)?,
-            second,
-        )?;
+        let mut row = zero_row(alloc, self.members[pair.first()].row.len())?;
+        self.add_multiple_of(alloc, &mut row, K::one(), pair.first(), &multiple)?;
+        self.add_multiple_of(alloc, &mut row, K::one().neg(), pair.second(), &multiple)?;
         subtract_multiples(alloc, &mut row, quotients, &self.members)?;
         Ok(row)
+    }
+
+    // Adds to a row that of a member times c and the monomial by which the lead becomes m.
+    fn add_multiple_of(
+        &self,
+        alloc: Global,
+        row: &mut [Poly<K, O>],
+        c: K,
+        k: usize,
+        m: &Mono,
+    ) -> Result<(), PolyFault>
+        requires state { IsState K.field O.key self.now }
+        requires place { k < length self.now.members.items }
+        requires divisor { IsTrue (divides (lead_of O.key (sugared_members self.now.members.items) k) m.now.exponents) }
+        requires low { (member_at (sugared_members self.now.members.items) k).sugar - total (lead_of O.key (sugared_members self.now.members.items) k) + total m.now.exponents ≤ degree_limit }
+        requires row { ArePolynomials K.field row.old }
+        requires long { length row.old ≡ length (row_at self.now.members.items k) }
+        ensures value { OnOk result (row.new ≡ add_multiple K.field (term (K.rank c) (minus m.now.exponents (lead_of O.key (sugared_members self.now.members.items) k))) row.old (row_at self.now.members.items k)) }
+        ensures high { IsHighOnlyWhere ⊥ result }
+    {
+        let monomial = m.quot(&self.members[k].lead());
+        let factor = Poly::term(alloc, c, &monomial)?;
+        add_multiple(alloc, row, &factor, &self.members[k].row)
     }
 }
 
