@@ -1,7 +1,7 @@
 -- Members of a run, their leads and their multiples.
 use Rattle.std.proofs.Common.{◌≡◌, ◌≢◌, ℕ, suc, ◌+◌, ◌-◌, ◌^◌, ◌<◌, ◌≤◌, max, List, [], ◌∷◌, ◌++◌, length, length-append, get_or, map, All, IsTrue, Option, Some, None, is_some, true, Result, Ok, Err, refl, sym, ap, ap₂, ◌∙◌, subst, subst₂, arith}
 use Rattle.std.specs.FinMap.{empty}
-use Rattle.std.proofs.lemmas.List.{length-map, get_or-map, get_or_append_left, get_or_push}
+use Rattle.std.proofs.lemmas.List.{length-map, get_or-map, get_or_default, get_or_append_left, get_or_push}
 use Rattle.std.proofs.lemmas.List.Elements.{All-map, All-weaker}
 use Rattle.fj_algebra.proofs.Lists.{All-map_back}
 use Rattle.fj_coeff.specs.Field.{Field, IsField}
@@ -10,6 +10,7 @@ use Rattle.fj_theory.specs.MonomialOrder.{IsMonomialOrder}
 use Rattle.fj_theory.specs.Polynomial.{Polynomial, IsPolynomial, coefficient, product, term}
 use Rattle.fj_theory.specs.Ideal.{ArePolynomials}
 use Rattle.fj_theory.specs.Lead.{lead_exponents, lead_coefficient}
+use Rattle.fj_theory.specs.Rows.{add_multiple}
 use Rattle.fj_theory.specs.Division.{Sugared, polynomials_of, member_at, AreWithinSugars, DegreeAtMost, degree_limit, difference}
 use Rattle.fj_theory.specs.Run.{lead_of, pair_multiple, s_polynomial, IsRun}
 use Rattle.fj_theory.specs.Run as definition
@@ -25,7 +26,7 @@ use Rattle.fj_poly.specs.Limit.{IsHigh, IsHighWhere}
 use Rattle.fj_poly.specs.declared.fault.PolyFault.{PolyFault}
 use Rattle.fj_poly.specs.declared.fault.PolyFault.TheVariants.{High, Memory}
 use Rattle.fj_basis.specs.declared.members.Member.{Member}
-use Rattle.fj_basis.specs.Members.{sugared, sugared_members, IsTraced}
+use Rattle.fj_basis.specs.Members.{sugared, sugared_members, IsRowWithin, IsTraced}
 use Rattle.fj_basis.specs.declared.run.Run.{Run}
 use Rattle.fj_basis.specs.State.{IsState, IsPairOf, row_at}
 use Rattle.fj_basis.specs.Place.{IsWithinLimit}
@@ -185,3 +186,35 @@ s-polynomial F key G i j = refl
 pub s-is : (F : Field) (key : List ℕ → List ℕ) (G : List Sugared) (i j : ℕ) (f : Polynomial) (n : ℕ) → f ≡ (s_polynomial F key G (i, j)).polynomial → n ≡ (s_polynomial F key G (i, j)).sugar
     → record { polynomial = f; sugar = n } ≡ s_polynomial F key G (i, j)
 s-is F key G i j f n e h = λ x. record { polynomial = e x; sugar = h x }
+
+-- The rows of the members of a state.
+module _ {K R : Type 0} {F : Field} {N : List Polynomial} where
+  pub row-traced : (members : List (Member K R)) → All (IsTraced F N) members → (k : ℕ) → k < length members → IsRowWithin F (member_at (sugared_members members) k).sugar (length N) (row_at members k)
+  unfolding row_at
+  row-traced [] all k l = absurd (omega (arith, l))
+  row-traced (x ∷ members) all k l =
+      let m = get_or (x ∷ members) k x in
+      let t = all k x l in
+      let is = get_or-map (λ y. y.row.items) (x ∷ members) k x [] l in
+      let own : member_at (sugared_members (x ∷ members)) k ≡ sugared m = member_is (x ∷ members) k m l (get_or_default (x ∷ members) k x m l) in
+      subst (IsRowWithin F (member_at (sugared_members (x ∷ members)) k).sugar (length N)) (sym is) (record {
+        polynomials = t.row.polynomials;
+        long = t.row.long;
+        within = subst (λ n. All (DegreeAtMost n) m.row.items) (sym (ap (λ g. g.sugar) own)) t.within;
+      })
+
+  pub rows-within : (members : List (Member K R)) → All (IsTraced F N) members → All (λ m. IsRowWithin F m.sugar (length N) m.row.items) members
+  rows-within members all k d l =
+      let t = all k d l in
+      record { polynomials = t.row.polynomials; long = t.row.long; within = t.within }
+
+-- One row added to another, its parts put otherwise.
+pub same_step : {K R : Type 0} (F : Field) (key : List ℕ → List ℕ) (members : List (Member K R)) {c d k l : ℕ} {a b : List ℕ} {s t : List Polynomial} → c ≡ d → k ≡ l → a ≡ b → s ≡ t
+    → add_multiple F (term c (minus a (lead_of key (sugared_members members) k))) s (row_at members k) ≡ add_multiple F (term d (minus b (lead_of key (sugared_members members) l))) t (row_at members l)
+same_step F key members ec ek ea es = λ i. add_multiple F (term (ec i) (minus (ea i) (lead_of key (sugared_members members) (ek i)))) (es i) (row_at members (ek i))
+
+pub length-added_row : (F : Field) (f : Polynomial) (xs ys : List Polynomial) → length (add_multiple F f xs ys) ≡ length xs
+unfolding add_multiple
+length-added_row F f [] ys = refl
+length-added_row F f (x ∷ xs) [] = refl
+length-added_row F f (x ∷ xs) (y ∷ ys) = ap suc (length-added_row F f xs ys)

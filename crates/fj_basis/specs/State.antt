@@ -47,14 +47,12 @@ HasPairsWith key G j before after = HasPairsUpTo key G j j before after
 unfoldable pub row_at : {K O : Type 0} → List (Member K O) → ℕ → List Polynomial
 row_at members k = slice_index_or (map (λ m. m.row.items) members) k []
 
--- The cofactors of an S-polynomial, less the members' cofactors times the quotients of its division.
-unfoldable pub s_polynomial_row : {K O : Type 0} → Field → (List ℕ → List ℕ) → List (Member K O) → ℕ × ℕ → List Polynomial → List Polynomial
-s_polynomial_row F key members pair quotients =
-    let G = sugared_members members in
-    let factor : ℕ → ℕ → Polynomial = λ c k. term c (minus (definition.pair_multiple key G pair) (definition.lead_of key G k)) in
-    let first = add_multiple F (factor 1 pair.0) (replicate (length (row_at members pair.0)) empty) (row_at members pair.0) in
-    let second = add_multiple F (factor (F.neg 1) pair.1) first (row_at members pair.1) in
-    add_multiples F (map (negation F) quotients) (map (λ m. m.row.items) members) second
+-- A row with the cofactors of an S-polynomial added, and the members' cofactors times the quotients of its division subtracted.
+unfoldable pub s_polynomial_row : {K O : Type 0} → Field → (List ℕ → List ℕ) → List (Member K O) → List Polynomial → ℕ × ℕ → List Polynomial → List Polynomial
+s_polynomial_row F key members start pair quotients =
+    let factor : ℕ → ℕ → Polynomial = λ c k. term c (minus (definition.pair_multiple key (sugared_members members) pair) (definition.lead_of key (sugared_members members) k)) in
+    add_multiples F (map (negation F) quotients) (map (λ m. m.row.items) members)
+    (add_multiple F (factor (F.neg 1) pair.1) (add_multiple F (factor 1 pair.0) start (row_at members pair.0)) (row_at members pair.1))
 
 -- The division of the S-polynomial of the pair, and the member that a remainder that isn't zero gives.
 pub record IsNextMember {K O : Type 0} (F : Field) (key : List ℕ → List ℕ) (members : List (Member K O)) (pair : ℕ × ℕ) (next : Option (Member K O)) : Type 0 where
@@ -62,7 +60,7 @@ pub record IsNextMember {K O : Type 0} (F : Field) (key : List ℕ → List ℕ)
   pub division : IsLowDivision F key (sugared_members members) (definition.s_polynomial F key (sugared_members members) pair) last
   pub found : MatchOption next (last.remainder ≡ empty) (λ m.
       (last.remainder ≢ empty) × (sugared m ≡ definition.monic_member F key (record { polynomial = last.remainder; sugar = last.sugar }))
-      × (m.row.items ≡ map (product F (term (F.inverse (lead_coefficient key last.remainder)) origin)) (s_polynomial_row F key members pair last.quotients)))
+      × (m.row.items ≡ map (product F (term (F.inverse (lead_coefficient key last.remainder)) origin)) (s_polynomial_row F key members (replicate (length (row_at members pair.0)) empty) pair last.quotients)))
 
 -- Some run, after some turns.
 pub record IsState {K O : Type 0} (F : Field) (key : List ℕ → List ℕ) (s : Run K O) : Type 0 where

@@ -1,11 +1,11 @@
-ghost use Rattle.std.specs.Prelude.{◌≡◌, ◌≢◌, ◌+◌, ◌-◌, ◌<◌, ◌≤◌, ◌↔◌, ◌++◌, ◌∷◌, ℕ, suc, List, [], IfOk, OnOk, IsTrue, All, length};
+ghost use Rattle.std.specs.Prelude.{◌≡◌, ◌≢◌, ◌+◌, ◌-◌, ◌<◌, ◌≤◌, ◌↔◌, ◌++◌, ◌∷◌, ℕ, suc, List, [], IfOk, OnOk, IsTrue, All, length, replicate};
 ghost use Rattle.std.specs.FinMap.{empty};
 ghost use Rattle.fj_theory.specs.Exponents.{divides, minus, total};
 ghost use Rattle.fj_theory.specs.Ideal.{ArePolynomials};
 ghost use Rattle.fj_theory.specs.Polynomial.{Polynomial, product, term};
 ghost use Rattle.fj_theory.specs.Rows.{add_multiple};
 ghost use Rattle.fj_theory.specs.Division.{IsHighDivision, degree_limit, member_at};
-ghost use Rattle.fj_theory.specs.Run.{are_coprime, has_coprime_leads, lead_of, s_polynomial};
+ghost use Rattle.fj_theory.specs.Run.{are_coprime, has_coprime_leads, lead_of, pair_multiple, s_polynomial};
 ghost use Rattle.fj_basis.specs.Members.{sugared_members};
 ghost use Rattle.fj_basis.specs.Outcome.{IsHighOnlyWhere};
 ghost use Rattle.fj_basis.specs.Quotients.{AreQuotientsWithin};
@@ -198,15 +198,38 @@ impl<K: Coeff, O: Order> Run<K, O> {
         requires second { pair.now.j < length self.now.members.items }
         requires low { (s_polynomial K.field O.key (sugared_members self.now.members.items) (pair.now.i, pair.now.j)).sugar ≤ degree_limit }
         requires quotients { AreQuotientsWithin K.field (sugared_members self.now.members.items) degree_limit quotients.now }
-        ensures value { IfOk result (λ row. row.items ≡ s_polynomial_row K.field O.key self.now.members.items (pair.now.i, pair.now.j) quotients.now) }
+        ensures value { IfOk result (λ row. row.items ≡ s_polynomial_row K.field O.key self.now.members.items (replicate (length (row_at self.now.members.items pair.now.i)) empty) (pair.now.i, pair.now.j) quotients.now) }
         ensures high { IsHighOnlyWhere ⊥ result }
     {
         let multiple = pair.multiple().unwrap();
         let mut row = zero_row(alloc, self.members[pair.first()].row.len())?;
-        self.add_multiple_of(alloc, &mut row, K::one(), pair.first(), &multiple)?;
-        self.add_multiple_of(alloc, &mut row, K::one().neg(), pair.second(), &multiple)?;
-        subtract_multiples(alloc, &mut row, quotients, &self.members)?;
+        self.fill_row(alloc, &mut row, pair, &multiple, quotients)?;
         Ok(row)
+    }
+
+    // Adds to a row the cofactors of the S-polynomial of a pair, and subtracts those of the members times the quotients.
+    fn fill_row(
+        &self,
+        alloc: Global,
+        row: &mut [Poly<K, O>],
+        pair: &Pair<O>,
+        multiple: &Mono,
+        quotients: &[Poly<K, O>],
+    ) -> Result<(), PolyFault>
+        requires state { IsState K.field O.key self.now }
+        requires first { pair.now.i < pair.now.j }
+        requires second { pair.now.j < length self.now.members.items }
+        requires multiple { multiple.now.exponents ≡ pair_multiple O.key (sugared_members self.now.members.items) (pair.now.i, pair.now.j) }
+        requires low { (s_polynomial K.field O.key (sugared_members self.now.members.items) (pair.now.i, pair.now.j)).sugar ≤ degree_limit }
+        requires quotients { AreQuotientsWithin K.field (sugared_members self.now.members.items) degree_limit quotients.now }
+        requires row { ArePolynomials K.field row.old }
+        requires long { length row.old ≡ length (row_at self.now.members.items pair.now.i) }
+        ensures value { OnOk result (row.new ≡ s_polynomial_row K.field O.key self.now.members.items row.old (pair.now.i, pair.now.j) quotients.now) }
+        ensures high { IsHighOnlyWhere ⊥ result }
+    {
+        self.add_multiple_of(alloc, row, K::one(), pair.first(), multiple)?;
+        self.add_multiple_of(alloc, row, K::one().neg(), pair.second(), multiple)?;
+        subtract_multiples(alloc, row, quotients, &self.members)
     }
 
     // Adds to a row that of a member times c and the monomial by which the lead becomes m.
