@@ -10,7 +10,7 @@ use Rattle.fj_theory.specs.MonomialOrder.{IsMonomialOrder}
 use Rattle.fj_theory.specs.Polynomial.{Polynomial, IsPolynomial, coefficient, product, term}
 use Rattle.fj_theory.specs.Ideal.{ArePolynomials}
 use Rattle.fj_theory.specs.Lead.{lead_exponents, lead_coefficient}
-use Rattle.fj_theory.specs.Rows.{add_multiple}
+use Rattle.fj_theory.specs.Rows.{add_multiple, add_multiples}
 use Rattle.fj_theory.specs.Division.{Sugared, polynomials_of, member_at, AreWithinSugars, DegreeAtMost, degree_limit, difference}
 use Rattle.fj_theory.specs.Run.{lead_of, pair_multiple, s_polynomial, IsRun}
 use Rattle.fj_theory.specs.Run as definition
@@ -28,7 +28,7 @@ use Rattle.fj_poly.specs.declared.fault.PolyFault.TheVariants.{High, Memory}
 use Rattle.fj_basis.specs.declared.members.Member.{Member}
 use Rattle.fj_basis.specs.Members.{sugared, sugared_members, IsRowWithin, IsTraced}
 use Rattle.fj_basis.specs.declared.run.Run.{Run}
-use Rattle.fj_basis.specs.State.{IsState, IsPairOf, row_at}
+use Rattle.fj_basis.specs.State.{IsState, IsPairOf, row_at, s_polynomial_row}
 use Rattle.fj_basis.specs.Place.{IsWithinLimit}
 use Rattle.fj_basis.specs.declared.pairs.Pair.{Pair}
 use Rattle.fj_basis.specs.Outcome.{IsHighOnlyWhere}
@@ -218,3 +218,14 @@ unfolding add_multiple
 length-added_row F f [] ys = refl
 length-added_row F f (x ∷ xs) [] = refl
 length-added_row F f (x ∷ xs) (y ∷ ys) = ap suc (length-added_row F f xs ys)
+
+length-added_rows : (F : Field) (fs : List Polynomial) (rows : List (List Polynomial)) (first : List Polynomial) → length (add_multiples F fs rows first) ≡ length first
+unfolding add_multiples
+length-added_rows F [] rows first = refl
+length-added_rows F (f ∷ fs) [] first = refl
+length-added_rows F (f ∷ fs) (row ∷ rows) first = length-added_rows F fs rows (add_multiple F f first row) ∙ length-added_row F f first row
+
+pub length-s_row : {K R : Type 0} (F : Field) (key : List ℕ → List ℕ) (members : List (Member K R)) (start : List Polynomial) (pair : ℕ × ℕ) (quotients : List Polynomial)
+    → length (s_polynomial_row F key members start pair quotients) ≡ length start
+unfolding s_polynomial_row
+length-s_row F key members start pair quotients = length-added_rows F _ _ _ ∙ length-added_row F _ _ _ ∙ length-added_row F _ start _
