@@ -1,23 +1,12 @@
-//! Division of polynomials, reduced Gröbner bases by Buchberger's algorithm with cofactors both ways, and their
-//! certificates.
+//! Division of polynomials by a list.
 #![tactic(auto)]
 
-mod calculation;
-mod certificate;
 mod cofactors;
 mod division;
 mod divisor;
-mod finishing;
 mod handed;
-mod members;
-mod pairs;
-mod run;
-mod stop;
-pub mod types;
 
-pub use calculation::basis;
 pub use division::divide;
-pub use stop::Stop;
 
 #[cfg(test)]
 mod tests;
