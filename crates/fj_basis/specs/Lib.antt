@@ -1,0 +1,3 @@
+pub mod DivisionCode
+pub mod Left
+pub mod Quotients

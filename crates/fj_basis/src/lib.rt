@@ -1,0 +1,12 @@
+//! Division of polynomials by a list.
+#![tactic(auto)]
+
+mod cofactors;
+mod division;
+mod divisor;
+mod handed;
+
+pub use division::divide;
+
+#[cfg(test)]
+mod tests;
