@@ -1,0 +1,18 @@
+//! Texts: the names of variables, expressions as they are read, and values as they are printed.
+#![tactic(auto)]
+
+mod expression;
+mod fault;
+mod names;
+mod read;
+mod reader;
+mod scope;
+mod token;
+
+pub use expression::read_expression;
+pub use fault::{Cause, Fault, ReadFault, TextFault};
+pub use names::Names;
+pub use read::read_expr;
+pub use reader::Reader;
+pub use scope::{Meaning, Scope};
+pub use token::Token;
