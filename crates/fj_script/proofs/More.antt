@@ -1,0 +1,1 @@
+-- Lists with commas: how they begin, go on, stop and fail.
