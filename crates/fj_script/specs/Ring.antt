@@ -24,8 +24,8 @@ unfoldable pub variable : List (List ℕ) → State → Answer (List ℕ)
 variable names s = do
   w ← word s
   if nat_le 7 (length names) then Err (fault_at kinds.Vars w.1)
-  else (if is_some (place_of names w.0) then Err (fault_at kinds.Taken w.1)
-  else Ok w)
+      else (if is_some (place_of names w.0) then Err (fault_at kinds.Taken w.1)
+      else Ok w)
 
 unfoldable pub ring : State → Result Session LineFault
 ring s = do

@@ -211,11 +211,7 @@ fn constant(p: u64, reader: &mut Reader) -> Result<u64, LineFault>
 
 /// A coordinate, behind these.
 #[tactic(auto, unfolding(crate::specs::Declaration::coordinate))]
-fn coordinate(
-    session: &Session,
-    coordinates: &[u64],
-    reader: &mut Reader,
-) -> Result<u64, LineFault>
+fn coordinate(session: &Session, coordinates: &[u64], reader: &mut Reader) -> Result<u64, LineFault>
     ensures gives { Gives (λ c. c) result reader.new (coordinate session.now coordinates.now reader.old) }
     ensures taken { OnOk result (length reader.new.left < length reader.old.left) }
 {

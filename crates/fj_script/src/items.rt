@@ -2,9 +2,9 @@
 ghost use Rattle.std.specs.Prelude.{◌≡◌, ◌<◌, ◌≤◌, ◌^◌, length, IfOk, OnOk};
 ghost use Rattle.fj_text.specs.Seen.{seen};
 ghost use Rattle.fj_text.specs.Word.{IsWord};
-ghost use Rattle.fj_script.specs.Items.{at_end, narrow, number, number_of, sign, word, word_of};
+ghost use Rattle.fj_script.specs.Items.{narrow, number, number_of, sign, word, word_of};
 ghost use Rattle.fj_script.specs.Seen.{Gives};
-ghost use Rattle.fj_script.specs.Taken.{GivesEnd, GivesSign};
+ghost use Rattle.fj_script.specs.Taken.{GivesSign, IsEnd};
 
 use super::fault::{FaultKind, LineFault, fault_at, not_here};
 use fj_text::{Reader, Token};
@@ -90,8 +90,9 @@ pub(crate) fn sign(b: u8, reader: &mut Reader) -> Result<(), LineFault>
 }
 
 /// The line has to end here.
+#[tactic(auto, unfolding(crate::specs::Items::at_end))]
 pub(crate) fn at_end(reader: &mut Reader) -> Result<(), LineFault>
-    ensures gives { GivesEnd result reader.old }
+    ensures { IsEnd result reader.old }
 {
     let fault = not_here(reader);
     match reader.take() {

@@ -39,13 +39,6 @@ fn prime(reader: &mut Reader) -> Result<u64, LineFault>
     Ok(n)
 }
 
-/// Whether a word is among names.
-fn is_among(names: &[&str], word: &[u8]) -> bool
-    ensures { result ≡ is_some (place_of (map (λ name. name.now) names.now) word.now) }
-{
-    names.iter().any(|name| name.as_bytes() == word)
-}
-
 /// The variable that has to be next, behind these.
 #[tactic(auto, unfolding(crate::specs::Ring::variable))]
 fn variable<'a>(names: &[&str], reader: &mut Reader<'a>) -> Result<&'a str, LineFault>
@@ -55,14 +48,14 @@ fn variable<'a>(names: &[&str], reader: &mut Reader<'a>) -> Result<&'a str, Line
     ensures new { IfOk result (λ w. place_of (map (λ name. name.now) names.now) w.now ≡ None) }
     ensures few { OnOk result (length names.now < 7) }
 {
-    let word = word(reader)?;
+    let word = str::from_utf8(word(reader)?).unwrap();
     if names.len() >= MAX_VARIABLES {
         return Err(fault_at(FaultKind::Vars, reader));
     }
-    if is_among(names, word) {
+    if names.contains(&word) {
         return Err(fault_at(FaultKind::Taken, reader));
     }
-    Ok(str::from_utf8(word).unwrap())
+    Ok(word)
 }
 
 /// The variables, with a comma between each two.

@@ -22,7 +22,7 @@ const MAX_ASKED: usize = 4096;
 const MAX_BUDGET: u64 = 10000000;
 
 /// The words that begin statements.
-#[derive(Clone, Copy, Debug)]
+#[derive(Clone, Copy)]
 enum Keyword {
     Ring,
     Order,
