@@ -1,7 +1,10 @@
 pub mod Word
+pub mod Printed
 pub mod Token
 pub mod State
 pub mod Seen
 pub mod Expression
 pub mod Reading
 pub mod Variable
+pub mod Grammar
+pub mod PrintedLaws
