@@ -1,4 +1,5 @@
 pub mod Numbers
+pub mod Words
 pub mod Tokens
 pub mod Places
 pub mod Joined

@@ -6,5 +6,5 @@ pub mod Seen
 pub mod Expression
 pub mod Reading
 pub mod Variable
-pub mod Grammar
 pub mod PrintedLaws
+pub mod Grammar

@@ -1,5 +1,6 @@
-//! Theorems over the definitions alone. A function of this module does nothing: its clause is the theorem, and the check
-//! proves it.
+//! Theorems on texts, over the definitions alone. A function of this module does nothing: its clause is the theorem, and
+//! the check proves it.
+
 ghost use Rattle.fj_text.specs.Grammar.{ExpressionIsRead, ReadIsExpression};
 ghost use Rattle.fj_text.specs.PrintedLaws.{PrintedIsRead};
 

@@ -1,6 +1,6 @@
-use Rattle.std.proofs.Common.{◌≡◌, ◌^◌, arith, ap, ◌∙◌}
+use Rattle.std.proofs.Common.{◌≡◌, ◌^◌, ap, ◌∙◌}
 use Rattle.fj_root.proofs.Powers.{power_fits}
-use Rattle.fj_root.proofs.part.frobenius_exponent.Goals as goal
+use Rattle.fj_root.proofs.frobenius_power.frobenius_exponent.Goals as goal
 
 pub pow-requires : goal.pow-requires
 pow-requires g c =
