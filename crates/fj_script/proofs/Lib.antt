@@ -1,1 +1,3 @@
+pub mod Primes
+pub mod Ends
 pub mod More
