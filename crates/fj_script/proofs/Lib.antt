@@ -1,3 +1,4 @@
 pub mod Primes
 pub mod Ends
+pub mod Ascii
 pub mod More
