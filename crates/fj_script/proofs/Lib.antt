@@ -1,4 +1,5 @@
 pub mod Primes
 pub mod Ends
 pub mod Ascii
+pub mod NewNames
 pub mod More

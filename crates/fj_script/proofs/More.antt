@@ -3,6 +3,10 @@ use Rattle.std.proofs.Common.{◌≡◌, ℕ, zero, suc, ◌<◌, ◌≤◌, Lis
 use Rattle.std.specs.Option.{option_map_or}
 use Rattle.fj_text.specs.State.{State, after_sign}
 use Rattle.fj_script.specs.declared.fault.LineFault.{LineFault}
+use Rattle.std.specs.Result.{IsErr, IsErrAnd}
+use Rattle.fj_script.specs.declared.fault.LineRefusal.{LineRefusal}
+use Rattle.fj_script.specs.declared.fault.LineRefusal.TheVariants.{At, Memory}
+use Rattle.fj_script.specs.Seen.{Reads}
 use Rattle.fj_script.specs.LineFault.{Answer, ◌>>=◌}
 use Rattle.fj_script.specs.Items.{comma, listed, more}
 
@@ -51,3 +55,12 @@ module _ {A : Type 0} (item : List A → State → Answer A) where
 
   pub list_breaks : (xs : List A) (s t : State) (fault : LineFault) (answer : Answer (List A)) → GoesOn item xs s answer → after_sign comma s ≡ Some t → 0 < length s.left → item xs t ≡ Err fault → answer ≡ Err fault
   list_breaks xs s t fault answer g e some one = g.is ∙ breaks g.turns xs s t fault g.enough some e one
+
+pub same_answer : {A : Type 0} {x y : A} {s t : State} → x ≡ y → s ≡ t → ◌≡◌ {A = Answer A} (Ok (x, s)) (Ok (y, t))
+same_answer e h i = Ok (e i, h i)
+
+-- a fault that was handed on by `?`
+pub reads_handed_on : {X A : Type 0} (view : X → A) (r : Result X LineRefusal) (P : LineRefusal → Type 0) (fault : LineFault) (s : State) (answer : Answer A) → IsErr r × IsErrAnd r P → ((e : LineRefusal) → P e → e ≡ At fault) → answer ≡ Err fault → Reads view r s answer
+reads_handed_on view (Ok x) P fault s answer h f e = absurd cc
+reads_handed_on view (Err (At other)) P fault s answer h f e = let same : At other ≡ At fault = f (At other) h.1 in e ∙ (let k : fault ≡ other = cc in ap (λ x. Err x) k)
+reads_handed_on view (Err Memory) P fault s answer h f e = tt
