@@ -1,5 +1,6 @@
 -- Lists with commas: how they begin, go on, stop and fail.
-use Rattle.std.proofs.Common.{◌≡◌, ℕ, zero, suc, ◌<◌, ◌≤◌, List, [], ◌∷◌, ◌++◌, length, Option, Some, None, Result, Ok, Err, refl, sym, ap, ◌∙◌, arith}
+use Rattle.std.proofs.Common.{◌≡◌, ℕ, zero, suc, ◌<◌, ◌≤◌, List, [], ◌∷◌, ◌++◌, length, map, Option, Some, None, Result, Ok, Err, refl, sym, ap, ◌∙◌, arith}
+use Rattle.std.proofs.lemmas.List.{map-append}
 use Rattle.std.specs.Option.{option_map_or}
 use Rattle.fj_text.specs.State.{State, after_sign}
 use Rattle.fj_script.specs.declared.fault.LineFault.{LineFault}
@@ -64,3 +65,20 @@ pub reads_handed_on : {X A : Type 0} (view : X → A) (r : Result X LineRefusal)
 reads_handed_on view (Ok x) P fault s answer h f e = absurd cc
 reads_handed_on view (Err (At other)) P fault s answer h f e = let same : At other ≡ At fault = f (At other) h.1 in e ∙ (let k : fault ≡ other = cc in ap (λ x. Err x) k)
 reads_handed_on view (Err Memory) P fault s answer h f e = tt
+
+-- The same where the code sees items by a view.
+module _ {X A : Type 0} (f : X → A) (item : List A → State → Answer A) (items shown : List X) (same : shown ≡ items) (s t u : State) (answer : Answer (List A)) (goes : GoesOn item (map f items) s answer) (sign : after_sign comma s ≡ Some t) (less : length t.left < length s.left) where
+  pub seen_goes : (new : List X) (x : X) → new ≡ items ++ x ∷ [] → length u.left < length t.left → item (map f shown) t ≡ Ok (f x, u) → GoesOn item (map f new) u answer
+  seen_goes new x e fewer one =
+      let again : map f new ≡ map f items ++ f x ∷ [] = ap (λ xs. map f xs) e ∙ map-append f items (x ∷ []) in
+      rw again (list_goes item (map f items) s t u (f x) answer goes sign (omega (arith, fewer, less)) (ap (λ xs. item (map f xs) t) (sym same) ∙ one))
+
+  pub seen_breaks : (fault : LineFault) → item (map f shown) t ≡ Err fault → answer ≡ Err fault
+  seen_breaks fault one = list_breaks item (map f items) s t fault answer goes sign (omega (arith, less)) (ap (λ xs. item (map f xs) t) (sym same) ∙ one)
+
+-- how a `?` hands on what a reading gave
+pub reads_refused : {X Y A B : Type 0} (view : X → A) (other : Y → B) (r : Result X LineRefusal) (e : LineRefusal) (s t : State) (answer : Answer A) (found : Answer B) → IsErr r × IsErrAnd r (λ g. g ≡ e) → Reads other (Err e) t found → ((fault : LineFault) → found ≡ Err fault → answer ≡ Err fault) → Reads view r s answer
+reads_refused view other (Ok x) e s t answer found h k f = absurd cc
+reads_refused view other (Err (At fault)) (At other_fault) s t answer found h k f = let same : At fault ≡ At other_fault = h.1 in f fault (k ∙ (let e : other_fault ≡ fault = cc in ap (λ x. Err x) e))
+reads_refused view other (Err (At fault)) Memory s t answer found h k f = absurd (let same : At fault ≡ Memory = h.1 in cc)
+reads_refused view other (Err Memory) e s t answer found h k f = tt

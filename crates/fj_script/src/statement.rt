@@ -88,7 +88,7 @@ fn budget(session: &mut Session, reader: &mut Reader) -> Result<(), LineRefusal>
 }
 
 /// What stands behind the word `ask`.
-#[tactic(auto, unfolding(crate::specs::Statement::asking))]
+#[tactic(auto, using(crate::proofs::Ends::ends, crate::proofs::Ends::goes_on), unfolding(crate::specs::Statement::asking))]
 fn asking(session: &mut Session, reader: &mut Reader) -> Result<(), LineRefusal>
     ensures { Makes (λ _. session.new) result (asking session.old reader.old) }
 {
