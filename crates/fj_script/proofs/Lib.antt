@@ -3,3 +3,4 @@ pub mod Ends
 pub mod Ascii
 pub mod NewNames
 pub mod More
+pub mod Ratios
