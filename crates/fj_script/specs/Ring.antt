@@ -12,7 +12,7 @@ use Rattle.fj_script.specs.Items.{at_end, listed, number, word}
 use Rattle.fj_script.specs.Session.{Session, new_session}
 
 unfoldable pub is_prime : ℕ → Bool
-is_prime n = list_any (λ p. p == n) primes
+is_prime n = list_any (λ p. n == p) primes
 
 unfoldable pub prime : State → Answer ℕ
 prime s = do

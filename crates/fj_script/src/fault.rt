@@ -132,7 +132,7 @@ pub(crate) fn fault_at(kind: FaultKind, reader: &Reader) -> LineFault
 {
     LineFault {
         kind,
-        column: reader.fault(Cause::Syntax).place,
+        column: reader.start(),
     }
 }
 

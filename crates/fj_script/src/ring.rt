@@ -1,5 +1,5 @@
 //! The ring of a session.
-ghost use Rattle.std.specs.Prelude.{◌≡◌, ◌<◌, ◌≤◌, length, map, Contains, IfOk, OnOk};
+ghost use Rattle.std.specs.Prelude.{◌≡◌, ◌<◌, ◌↔◌, length, map, Contains, IsTrue, IfOk, OnOk, None, is_some};
 ghost use Rattle.fj_coeff.specs.Field.{primes};
 ghost use Rattle.fj_text.specs.Word.{AreNames, IsWord, place_of};
 ghost use Rattle.fj_script.specs.Items.{listed};
@@ -19,11 +19,11 @@ const PRIMES: [u64; 6] = [2, 3, 5, 7, 11, 13];
 const MAX_VARIABLES: usize = 7;
 
 /// Whether a number is a prime that a ring may have.
-#[tactic(auto, unfolding(crate::specs::Ring::is_prime))]
 fn is_prime(n: u64) -> bool
-    ensures { result ≡ is_prime n }
+    ensures prime { IsTrue result ↔ Contains primes n }
+    ensures value { result ≡ is_prime n }
 {
-    PRIMES.iter().any(|p| *p == n)
+    PRIMES.contains(&n)
 }
 
 /// The prime that has to be next.
@@ -39,6 +39,18 @@ fn prime(reader: &mut Reader) -> Result<u64, LineFault>
     Ok(n)
 }
 
+/// Whether a word is among names.
+fn is_among(names: &[&str], word: &str) -> bool
+    ensures { result ≡ is_some (place_of (map (λ name. name.now) names.now) word.now) }
+{
+    for name in names {
+        if *name == word {
+            return true;
+        }
+    }
+    false
+}
+
 /// The variable that has to be next, behind these.
 #[tactic(auto, unfolding(crate::specs::Ring::variable))]
 fn variable<'a>(names: &[&str], reader: &mut Reader<'a>) -> Result<&'a str, LineFault>
@@ -52,7 +64,7 @@ fn variable<'a>(names: &[&str], reader: &mut Reader<'a>) -> Result<&'a str, Line
     if names.len() >= MAX_VARIABLES {
         return Err(fault_at(FaultKind::Vars, reader));
     }
-    if names.contains(&word) {
+    if is_among(names, word) {
         return Err(fault_at(FaultKind::Taken, reader));
     }
     Ok(word)
@@ -73,7 +85,11 @@ fn variables<'a>(alloc: Global, reader: &mut Reader<'a>) -> Result<Names, LineRe
 }
 
 /// What stands behind the word `ring`.
-#[tactic(auto, unfolding(crate::specs::Ring::ring))]
+#[tactic(
+    auto,
+    using(crate::proofs::Ends::ends, crate::proofs::Ends::goes_on),
+    unfolding(crate::specs::Ring::ring)
+)]
 pub(crate) fn ring(alloc: Global, reader: &mut Reader) -> Result<Session, LineRefusal>
     ensures { Makes (λ S. S) result (ring reader.old) }
 {
