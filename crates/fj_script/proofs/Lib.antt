@@ -7,3 +7,4 @@ pub mod Ratios
 pub mod Values
 pub mod Names
 pub mod FirstLine
+pub mod Places
