@@ -8,3 +8,5 @@ pub mod Values
 pub mod Names
 pub mod FirstLine
 pub mod Places
+pub mod Columns
+pub mod Tokens
