@@ -5,3 +5,6 @@ pub mod NewNames
 pub mod LineByLine
 pub mod More
 pub mod Ratios
+pub mod Values
+pub mod Names
+pub mod FirstLine
