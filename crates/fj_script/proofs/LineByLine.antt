@@ -1,5 +1,6 @@
 -- Lines, one after the other.
-use Rattle.std.proofs.Common.{◌≡◌, ℕ, zero, suc, ◌+◌, ◌<◌, ◌≤◌, List, [], ◌∷◌, length, Option, Some, None, IfSome, Result, Ok, Err, Bor, refl, sym, ap, ◌∙◌, arith}
+use Rattle.std.proofs.Common.{◌≡◌, ℕ, zero, suc, ◌+◌, ◌<◌, ◌≤◌, List, [], ◌∷◌, length, Option, Some, None, IfSome, Result, Ok, Err, Bor, refl, sym, ap, subst, ◌∙◌, arith}
+use Rattle.std.specs.Result.{IsErr, IsErrAnd}
 use Rattle.fj_script.specs.declared.fault.Fault.{Fault}
 use Rattle.fj_script.specs.declared.fault.ScriptFault.{ScriptFault}
 use Rattle.fj_script.specs.declared.fault.ScriptFault.TheVariants.{At, Memory}
@@ -59,3 +60,8 @@ pub fewer_bytes : (left rest : Option (Bor (List ℕ))) (text : Bor (List ℕ)) 
 fewer_bytes (Some t) None text e fewer = omega arith
 fewer_bytes (Some t) (Some rest) text e fewer = let same : t ≡ text = cc in let len : length t.now ≡ length text.now = ap (λ b. length b.now) same in omega (arith, fewer, len)
 fewer_bytes None rest text e fewer = absurd cc
+
+-- a refusal that was handed on by `?`
+pub makes_handed_on : (r : Result (Option Session) ScriptFault) (e : ScriptFault) (answer : Result (Option Session) Fault) → IsErr r × IsErrAnd r (λ f. f ≡ e) → MakesAll (Err e) answer → MakesAll r answer
+makes_handed_on (Ok S) e answer h made = absurd cc
+makes_handed_on (Err f) e answer h made = let same : f ≡ e = h.1 in let P : ScriptFault → Type 0 = λ x. MakesAll (Err x) answer in subst P (sym same) made
