@@ -3,6 +3,7 @@ pub mod Ends
 pub mod Ascii
 pub mod NewNames
 pub mod LineByLine
+pub mod Scripts
 pub mod More
 pub mod Ratios
 pub mod Values
