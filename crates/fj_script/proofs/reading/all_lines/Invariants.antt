@@ -6,7 +6,7 @@ use Rattle.fj_script.proofs.reading.all_lines.Given as goal
 abbrev pub invariant-lines : goal.invariant-lines
 invariant-lines l = record {
   is : from_line 1 None (lines l.fn.bytes) ≡ remaining l.number l.session l.left;
-  few : AreFew l.number l.left
+  few : AreFew l.number l.left;
 }
 
 abbrev pub decreases-lines : goal.decreases-lines

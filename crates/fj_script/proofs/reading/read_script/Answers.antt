@@ -12,10 +12,13 @@ pub returns-in_default : goal.returns-in_default
 returns-in_default c = fails_at c.args.bytes.now c.start-in_default.result _ c.start-in_default.ensures (script_of c.args.bytes.now c.if-bytes-gt-MAX_BYTES.false (Ok None) (c.in_ok-session.ensures ∙ ap (λ s. Ok s) c.in_default.is))
 
 pub returns : goal.returns
-returns c =
-    (c.in-Some.session, script_of c.args.bytes.now c.if-bytes-gt-MAX_BYTES.false (Ok (Some c.in-Some.session)) (c.in_ok-session.ensures ∙ ap (λ s. Ok s) c.in-Some.is), record {
-      prime = ap (λ S. S.prime) c.session.view_is;
-      variables = ap (λ S. S.variables) c.session.view_is;
-      values = ap (λ S. S.values) c.session.view_is;
-      questions = c.of.ensures ∙ ap (λ S. S.asked) c.session.view_is;
-    })
+returns c = (
+  c.in-Some.session,
+  script_of c.args.bytes.now c.if-bytes-gt-MAX_BYTES.false (Ok (Some c.in-Some.session)) (c.in_ok-session.ensures ∙ ap (λ s. Ok s) c.in-Some.is),
+  record {
+    prime = ap (λ S. S.prime) c.session.view_is;
+    variables = ap (λ S. S.variables) c.session.view_is;
+    values = ap (λ S. S.values) c.session.view_is;
+    questions = c.of.ensures ∙ ap (λ S. S.asked) c.session.view_is;
+  },
+)
