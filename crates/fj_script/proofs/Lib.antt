@@ -2,6 +2,8 @@ pub mod Primes
 pub mod Ends
 pub mod Ascii
 pub mod NewNames
+pub mod LineByLine
+pub mod Scripts
 pub mod More
 pub mod Ratios
 pub mod Values

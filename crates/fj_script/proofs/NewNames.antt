@@ -34,9 +34,9 @@ pairs_more {X} R xs y pairs last i j d less inside =
     let left = get_or_append_left xs (y ∷ []) d i (omega (arith, all, less, inside)) in
     ⊎_elim (λ (before : j < length xs). rw (left, get_or_append_left xs (y ∷ []) d j before) (pairs i j d less before))
     (λ (behind : length xs ≤ j).
-      let here : j ≡ length xs + 0 = omega (arith, all, inside, behind) in
-      let right : get_or (xs ++ y ∷ []) j d ≡ y = ap (λ k. get_or (xs ++ y ∷ []) k d) here ∙ get_or-append-add xs (y ∷ []) 0 d in
-      rw (left, right) (last i d (omega (arith, less, here))))
+    let here : j ≡ length xs + 0 = omega (arith, all, inside, behind) in
+    let right : get_or (xs ++ y ∷ []) j d ≡ y = ap (λ k. get_or (xs ++ y ∷ []) k d) here ∙ get_or-append-add xs (y ∷ []) 0 d in
+    rw (left, right) (last i d (omega (arith, less, here))))
     (lt_or_le j (length xs))
 
 pub names_more : (names : List (List ℕ)) (word : List ℕ) → AreNames names → IsWord word → None ≡ place_of names word → length names < 7 → AreNames (names ++ word ∷ [])

@@ -85,11 +85,7 @@ fn variables<'a>(alloc: Global, reader: &mut Reader<'a>) -> Result<Names, LineRe
 }
 
 /// What stands behind the word `ring`.
-#[tactic(
-    auto,
-    using(crate::proofs::Ends::ends, crate::proofs::Ends::goes_on),
-    unfolding(crate::specs::Ring::ring)
-)]
+#[tactic(auto, using(crate::proofs::Ends::ends, crate::proofs::Ends::goes_on), unfolding(crate::specs::Ring::ring))]
 pub(crate) fn ring(alloc: Global, reader: &mut Reader) -> Result<Session, LineRefusal>
     ensures { Makes (λ S. S) result (ring reader.old) }
 {

@@ -8,7 +8,7 @@ use Rattle.fj_script.proofs.ring.variables.Given as goal
 abbrev pub invariant-names : goal.invariant-names
 invariant-names l = record {
   goes : GoesOn variable (map (λ name. name.now) l.names.items) l.reader (listed variable l.fn.reader);
-  are_names : AreNames (map (λ name. name.now) l.names.items)
+  are_names : AreNames (map (λ name. name.now) l.names.items);
 }
 
 abbrev pub decreases-names : goal.decreases-names
