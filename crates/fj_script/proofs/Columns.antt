@@ -1,5 +1,5 @@
 -- Where the faults of a line stand: within the line.
-use Rattle.std.proofs.Common.{◌≡◌, ℕ, zero, suc, ◌+◌, ◌<◌, ◌≤◌, Bool, true, false, ◌||◌, nat_le, nat_lt, if◌then◌else◌, List, [], ◌∷◌, ◌++◌, length, Option, Some, None, Result, Ok, Err, refl, subst, arith}
+use Rattle.std.proofs.Common.{◌≡◌, ℕ, zero, suc, ◌≤◌, Bool, ◌||◌, nat_le, if◌then◌else◌, List, [], ◌∷◌, ◌++◌, length, Option, Some, None, Result, Ok, Err, subst}
 use Rattle.std.specs.Option.{is_some, option_map_or}
 use Rattle.fj_coeff.specs.PrimeField.{prime_field}
 use Rattle.fj_text.specs.Expression as text
@@ -15,7 +15,7 @@ use Rattle.fj_script.specs.declared.statement.Keyword.{Keyword}
 use Rattle.fj_script.specs.declared.statement.Keyword.TheVariants as keywords
 use Rattle.fj_script.specs.declared.value.Kind.{Kind}
 use Rattle.fj_script.specs.declared.value.Kind.TheVariants as kinds
-use Rattle.fj_script.specs.LineFault.{Answer, ◌>>=◌, fault_at, not_here}
+use Rattle.fj_script.specs.LineFault.{Answer, ◌>>=◌, not_here}
 use Rattle.fj_script.specs.Items.{at_end, comma, enclosed, equals, listed, more, narrow, number, number_of, sign, slash, taking, word, word_of}
 use Rattle.fj_script.specs.Session.{Session, Terms}
 use Rattle.fj_script.specs.Names as names

@@ -1,5 +1,5 @@
 -- The end of a line.
-use Rattle.std.proofs.Common.{◌≡◌, Option, Some, None, Result, Ok, Err, refl, sym, ap, ◌∙◌}
+use Rattle.std.proofs.Common.{◌≡◌, Option, Some, None, Ok, Err, sym, ap}
 use Rattle.std.specs.Option.{IsSome, option_map_or}
 use Rattle.fj_text.specs.Token.{Token}
 use Rattle.fj_text.specs.State.{State, next}

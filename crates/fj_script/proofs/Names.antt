@@ -1,9 +1,9 @@
 -- What a word stands for in a session.
-use Rattle.std.proofs.Common.{◌≡◌, ℕ, Bool, true, false, List, Some, None, refl, sym, ap, ◌∙◌}
+use Rattle.std.proofs.Common.{◌≡◌, ℕ, Bool, List, Some, None, refl, ap, ◌∙◌}
 use Rattle.std.specs.declared.option.Option.{Option}
 use Rattle.std.specs.Option.{is_some, option_map, option_map_or}
 use Rattle.fj_text.specs.declared.scope.Meaning.{Meaning}
-use Rattle.fj_text.specs.declared.scope.Meaning.TheVariants.{Variable, OtherKind, Unknown}
+use Rattle.fj_text.specs.declared.scope.Meaning.TheVariants.{Variable, Unknown}
 use Rattle.fj_text.specs.Reading.{meaning_among, meaning_at}
 use Rattle.fj_text.specs.Word.{place_of}
 use Rattle.fj_script.specs.Session.{Session}

@@ -1,5 +1,5 @@
 -- Where the faults of expressions stand: within the line.
-use Rattle.std.proofs.Common.{◌≡◌, ℕ, zero, suc, ◌+◌, ◌<◌, ◌≤◌, Bool, true, false, nat_lt, if◌then◌else◌, List, [], ◌∷◌, length, get_or, All, Option, Some, None, Result, Ok, Err, refl, arith}
+use Rattle.std.proofs.Common.{ℕ, zero, suc, ◌≤◌, Bool, true, false, nat_lt, if◌then◌else◌, List, [], ◌∷◌, All, Option, Some, None, Result, Ok, Err, arith}
 use Rattle.std.specs.Option.{option_and_then, option_map, option_map_or}
 use Rattle.fj_coeff.specs.Field.{Field}
 use Rattle.fj_theory.specs.Polynomial.{Polynomial}
@@ -8,7 +8,7 @@ use Rattle.fj_text.specs.declared.scope.Meaning.{Meaning}
 use Rattle.fj_text.specs.declared.scope.Meaning.TheVariants as meanings
 use Rattle.fj_text.specs.Expression.{Answer, atom, atom_of, constant, exponent_of, expression, factor, first_term, formed, is_wide, parenthesised, plus_term, repeat, sum_at, taking, term_at, times_factor, variable}
 use Rattle.fj_text.specs.State.{State, ◌>>=◌, after, after_sign, is_the_sign, next, unexpected}
-use Rattle.fj_text.specs.Token.{Token, Word, Number, Sign, BadByte, Placed, caret, closing, minus, opening, plus, star}
+use Rattle.fj_text.specs.Token.{Token, Word, Number, Sign, BadByte, Placed, caret, closing, minus, plus, star}
 
 -- The tokens that are left and the one that was taken last stand within n columns.
 pub record IsNear (n : ℕ) (s : State) : Type 0 where
@@ -47,6 +47,7 @@ module _ (n : ℕ) where
         test : (t : State) → IsNear n t → (c : Bool) → Good (g (if c then Some t else None))
         test t all true = some t all
         test t all false = none
+
         by : (ts : List Placed) → All (λ t. (t.start ≤ n) × (t.end ≤ n)) ts → Good (g (option_and_then {T = Token × State} (λ t. if is_the_sign b t.0 then Some t.1 else None) (elim ts [ [] ↦ None | t ∷ ts ↦ Some (t.token, after t ts) ])))
         by [] all = none
         by (u ∷ ts) all = test (after u ts) (after_near u ts all) (is_the_sign b u.token)

@@ -1,9 +1,9 @@
 -- The fraction of two numbers in lowest terms.
-use Rattle.std.proofs.Common.{◌≡◌, ℕ, zero, suc, ◌-◌, ◌*◌, ◌/◌, ◌%◌, ◌^◌, ◌<◌, ◌≤◌, ◌==◌, ◌↔◌, Bool, true, false, ◌&&◌, ◌||◌, not, nat_lt, if◌then◌else◌, Some, None, Result, Ok, Err, inl, inr, refl, sym, ap, ◌∙◌, subst, true≢false, arith}
+use Rattle.std.proofs.Common.{◌≡◌, ℕ, zero, suc, ◌*◌, ◌/◌, ◌%◌, ◌^◌, ◌<◌, ◌≤◌, ◌==◌, ◌↔◌, Bool, true, false, ◌&&◌, ◌||◌, not, nat_lt, if◌then◌else◌, Some, Result, Ok, Err, inl, inr, refl, sym, ap, ◌∙◌, subst, true≢false, arith}
 use Rattle.std.specs.Int.{IsGcd}
 use Rattle.std.specs.Option.{option_map_or}
 use Rattle.std.specs.Result.{IsErrOf}
-use Rattle.std.proofs.lemmas.Bool.{and_parts, cases_eq, cases_Bool, lt-ltb, le-ltb, eqb-true}
+use Rattle.std.proofs.lemmas.Bool.{and_parts, cases_eq, lt-ltb, le-ltb, eqb-true}
 use Rattle.std.proofs.lemmas.Nat.{mod_below}
 use Rattle.std.proofs.lemmas.Nat.Gcd.{IsGcd-from_zero, IsGcd-from_mod, le_of_dvd, dvd_of_mod-eq-zero, mod-eq-zero_of_dvd}
 use Rattle.std.proofs.Math.Nat.{div-le_self}
@@ -15,7 +15,7 @@ use Rattle.fj_ratio.specs.FractionCode.{same_fraction}
 use Rattle.fj_ratio.proofs.LowestTerms.{divided, gcd_positive, same_lowest_form}
 use Rattle.fj_text.specs.State.{State}
 use Rattle.fj_script.specs.declared.fault.FaultKind.TheVariants as kinds
-use Rattle.fj_script.specs.LineFault.{Answer, fault_at}
+use Rattle.fj_script.specs.LineFault.{fault_at}
 use Rattle.fj_script.specs.Numbers.{common_divisor, divisor_up_to, fraction, is_exponent, lowest, ratio_of}
 
 gcd_exists : (fuel m n : ℕ) → n < fuel → (g : ℕ) × IsGcd m n g

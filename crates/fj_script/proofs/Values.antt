@@ -1,5 +1,5 @@
 -- The values of a session by their names, as the map keeps them.
-use Rattle.std.proofs.Common.{◌≡◌, ◌≢◌, ℕ, zero, suc, ◌+◌, ◌<◌, ◌≤◌, Bool, true, false, cond, ◌||◌, not, nat_lt, List, [], ◌∷◌, length, map, get_or, slice_get, sum, Some, None, Result, Ok, Err, inl, inr, refl, sym, ap, ◌∙◌, subst, arith, All}
+use Rattle.std.proofs.Common.{◌≡◌, ℕ, zero, suc, ◌+◌, ◌<◌, Bool, true, false, cond, ◌||◌, not, nat_lt, List, [], ◌∷◌, length, map, get_or, slice_get, Some, None, Result, Ok, Err, inl, inr, refl, sym, ap, ◌∙◌, subst, arith, All}
 use Rattle.std.specs.List.{list_any, position, position_or_len}
 use Rattle.std.specs.Map.{lookup, lookup_key}
 use Rattle.std.specs.Option.{option_map}
@@ -7,7 +7,6 @@ use Rattle.std.specs.Result.{IsOk, MatchResult}
 use Rattle.std.specs.Str.{bytes_eq, IsUtf8}
 use Rattle.std.proofs.lemmas.Bool.{cases_lt, lt-ltb}
 use Rattle.std.proofs.lemmas.Bool.Decides.{nat_tests, same_from_decides}
-use Rattle.std.proofs.lemmas.List.{length-map}
 use Rattle.std.proofs.lemmas.List.Folds.{list_any_at}
 use Rattle.std.proofs.lemmas.List.Sums.{sum_by-cons}
 use Rattle.std.proofs.lemmas.Map.Made.{lookup_key_passes}
@@ -17,7 +16,7 @@ use Rattle.std.proofs.lemmas.Str.{IsUtf8-from_ascii}
 use Rattle.std.proofs.lemmas.Str.Ascii.{IsAscii-from_all}
 use Rattle.indexmap.proofs.MapLemmas.{Missing-position}
 use Rattle.fj_theory.specs.Exponents.{total}
-use Rattle.fj_text.specs.Word.{is_word_byte, is_word_start, IsWord, place_of}
+use Rattle.fj_text.specs.Word.{is_word_byte, IsWord, place_of}
 use Rattle.fj_text.proofs.Words.{start_is_byte}
 use Rattle.fj_script.specs.declared.value.Value as code
 use Rattle.fj_script.specs.Names.{declared_names}

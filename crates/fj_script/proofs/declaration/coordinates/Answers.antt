@@ -1,6 +1,6 @@
-use Rattle.std.proofs.Common.{sym, ap, subst, ◌∙◌, arith}
+use Rattle.std.proofs.Common.{sym, ap, ◌∙◌, arith}
 use Rattle.fj_script.specs.Declaration.{coordinate}
-use Rattle.fj_script.proofs.More.{GoesOn, list_goes, list_stops, list_breaks, reads_handed_on, same_answer}
+use Rattle.fj_script.proofs.More.{list_goes, list_stops, list_breaks, reads_handed_on, same_answer}
 use Rattle.fj_script.proofs.declaration.coordinates.Goals as goal
 
 pub coordinates-preserved : goal.coordinates-preserved

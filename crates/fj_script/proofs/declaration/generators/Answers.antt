@@ -1,11 +1,11 @@
-use Rattle.std.proofs.Common.{◌≡◌, ℕ, ◌+◌, List, [], ◌∷◌, ◌++◌, length, map, sum, Vec, zero-add, sym, ap, subst, ◌∙◌, arith}
+use Rattle.std.proofs.Common.{◌≡◌, ℕ, ◌+◌, List, [], ◌∷◌, ◌++◌, length, map, sum, zero-add, sym, ap, ◌∙◌, arith}
 use Rattle.std.proofs.lemmas.List.{map-append}
 use Rattle.std.proofs.lemmas.List.Sums.{sum_by-append}
 use Rattle.fj_theory.specs.Plain.{PlainPolynomial}
 use Rattle.fj_script.specs.Seen.{terms_of}
-use Rattle.fj_script.specs.Session.{Terms, terms_in}
+use Rattle.fj_script.specs.Session.{terms_in}
 use Rattle.fj_script.specs.Declaration.{generator}
-use Rattle.fj_script.proofs.More.{GoesOn, list_goes, list_stops, reads_refused, same_answer, seen_goes, seen_breaks}
+use Rattle.fj_script.proofs.More.{list_stops, reads_refused, same_answer, seen_goes, seen_breaks}
 use Rattle.fj_script.proofs.declaration.generators.Goals as goal
 
 -- the terms of one more generator

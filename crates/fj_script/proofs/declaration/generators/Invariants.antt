@@ -1,4 +1,4 @@
-use Rattle.std.proofs.Common.{◌≡◌, ◌+◌, ◌≤◌, length, map}
+use Rattle.std.proofs.Common.{◌≡◌, ◌+◌, ◌≤◌, length}
 use Rattle.fj_script.specs.Items.{listed}
 use Rattle.fj_script.specs.Seen.{terms_of}
 use Rattle.fj_script.specs.Session.{terms_in}

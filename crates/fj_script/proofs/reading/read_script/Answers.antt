@@ -1,4 +1,4 @@
-use Rattle.std.proofs.Common.{None, Ok, Some, ap, sym, ◌∙◌}
+use Rattle.std.proofs.Common.{None, Ok, Some, ap, ◌∙◌}
 use Rattle.fj_script.proofs.Scripts.{fails_at, long_script, script_handed_on, script_of}
 use Rattle.fj_script.proofs.reading.read_script.Goals as goal
 

@@ -1,4 +1,4 @@
-use Rattle.std.proofs.Common.{length, map, Bor, ℕ, List}
+use Rattle.std.proofs.Common.{length, map}
 use Rattle.fj_text.specs.Word.{AreNames}
 use Rattle.fj_script.specs.Items.{listed}
 use Rattle.fj_script.specs.Ring.{variable}

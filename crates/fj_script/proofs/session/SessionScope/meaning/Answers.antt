@@ -1,4 +1,4 @@
-use Rattle.std.proofs.Common.{◌≡◌, ℕ, true, false, sym, ap, ◌∙◌, subst}
+use Rattle.std.proofs.Common.{◌≡◌, true, false, subst}
 use Rattle.fj_text.specs.declared.scope.Meaning.TheVariants.{Variable, OtherKind, Unknown}
 use Rattle.fj_script.specs.Names.{meaning}
 use Rattle.fj_script.proofs.Names.{is_other, is_variable}

@@ -1,8 +1,8 @@
-use Rattle.std.proofs.Common.{◌≡◌, Some, sym, ap, ◌∙◌, slice_get}
+use Rattle.std.proofs.Common.{sym, ap, ◌∙◌, slice_get}
 use Rattle.std.specs.Option.{option_map}
 use Rattle.fj_text.specs.Word.{place_of}
 use Rattle.fj_script.specs.Names.{declared_names}
-use Rattle.fj_script.specs.Seen.{seen, seen_values}
+use Rattle.fj_script.specs.Seen.{seen_values}
 use Rattle.fj_script.proofs.Values.{position_is, value_at}
 use Rattle.fj_script.proofs.value.ValueList.find.Goals as goal
 
