@@ -1,0 +1,14 @@
+pub mod Primes
+pub mod Ends
+pub mod Ascii
+pub mod NewNames
+pub mod LineByLine
+pub mod Scripts
+pub mod More
+pub mod Ratios
+pub mod Values
+pub mod Names
+pub mod FirstLine
+pub mod Places
+pub mod Columns
+pub mod Tokens

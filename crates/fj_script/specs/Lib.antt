@@ -1,0 +1,15 @@
+pub mod LineFault
+pub mod Items
+pub mod Session
+pub mod Names
+pub mod Ring
+pub mod Declaration
+pub mod Numbers
+pub mod Question
+pub mod Statement
+pub mod Script
+pub mod Seen
+pub mod Refusals
+pub mod Taken
+pub mod Limits
+pub mod Lines

@@ -1,0 +1,96 @@
+//! The words of questions.
+ghost use Rattle.std.specs.Prelude.{◌≡◌};
+ghost use Rattle.fj_script.specs.Question.{ask_of, is_above_zero};
+
+/// The word that names a question.
+#[derive(Clone, Copy)]
+pub(crate) enum Ask {
+    Parts,
+    Member,
+    OneIdeal(OneIdeal),
+    TwoIdeals(TwoIdeals),
+    Frobenius(Frobenius),
+    TestIdeal(TestIdeal),
+    Jumps,
+    Nu,
+    Threshold,
+    Pure,
+    Compatible,
+}
+
+/// The questions on one ideal.
+#[derive(Clone, Copy)]
+pub(crate) enum OneIdeal {
+    Basis,
+    Split,
+}
+
+/// The questions on two ideals.
+#[derive(Clone, Copy)]
+pub(crate) enum TwoIdeals {
+    Same,
+    Sum,
+    Product,
+    Meet,
+    Colon,
+}
+
+/// The questions on a Frobenius power or root.
+#[derive(Clone, Copy)]
+pub(crate) enum Frobenius {
+    Power,
+    Root,
+}
+
+/// The questions on a test ideal.
+#[derive(Clone, Copy)]
+pub(crate) enum TestIdeal {
+    Test,
+    Left,
+    IsJump,
+    Regular,
+}
+
+impl TestIdeal {
+    /// Whether the exponent has to be above 0.
+    pub(crate) fn is_above_zero(self) -> bool
+        ensures { result ≡ is_above_zero self }
+    {
+        match self {
+            TestIdeal::Left => true,
+            TestIdeal::IsJump => true,
+            TestIdeal::Test => false,
+            TestIdeal::Regular => false,
+        }
+    }
+}
+
+/// The question that a word names.
+#[tactic(auto, unfolding(crate::specs::Question::ask_of))]
+pub(crate) fn ask_of(word: &[u8]) -> Option<Ask>
+    ensures { result ≡ ask_of word.now }
+{
+    match word {
+        b"parts" => Some(Ask::Parts),
+        b"basis" => Some(Ask::OneIdeal(OneIdeal::Basis)),
+        b"member" => Some(Ask::Member),
+        b"same" => Some(Ask::TwoIdeals(TwoIdeals::Same)),
+        b"sum" => Some(Ask::TwoIdeals(TwoIdeals::Sum)),
+        b"product" => Some(Ask::TwoIdeals(TwoIdeals::Product)),
+        b"meet" => Some(Ask::TwoIdeals(TwoIdeals::Meet)),
+        b"colon" => Some(Ask::TwoIdeals(TwoIdeals::Colon)),
+        b"power" => Some(Ask::Frobenius(Frobenius::Power)),
+        b"root" => Some(Ask::Frobenius(Frobenius::Root)),
+        b"test" => Some(Ask::TestIdeal(TestIdeal::Test)),
+        b"left" => Some(Ask::TestIdeal(TestIdeal::Left)),
+        b"isjump" => Some(Ask::TestIdeal(TestIdeal::IsJump)),
+        b"regular" => Some(Ask::TestIdeal(TestIdeal::Regular)),
+        b"jumps" => Some(Ask::Jumps),
+        b"nu" => Some(Ask::Nu),
+        b"threshold" => Some(Ask::Threshold),
+        b"fpure" => Some(Ask::Pure),
+        b"split" => Some(Ask::OneIdeal(OneIdeal::Split)),
+        b"compatible" => Some(Ask::Compatible),
+        _ => None,
+    }
+}
