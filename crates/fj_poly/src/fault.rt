@@ -1,7 +1,7 @@
 ghost use Rattle.std.specs.Prelude.{◌≡◌};
 ghost use Rattle.fj_poly.specs.declared.fault.PolyFault.TheVariants.{Memory};
 
-use std::alloc::AllocError;
+use std::alloc::{AllocError, AllocFailed};
 use thiserror::Error;
 
 /// Why a product is refused.
@@ -18,6 +18,14 @@ impl From<AllocError> for PolyFault {
     ghost from_gives = { λ _ e. e ≡ Memory };
 
     fn from(_e: AllocError) -> PolyFault {
+        PolyFault::Memory
+    }
+}
+
+impl<T: Drop> From<AllocFailed<T>> for PolyFault {
+    ghost from_gives = { λ _ e. e ≡ Memory };
+
+    fn from(_e: AllocFailed<T>) -> PolyFault {
         PolyFault::Memory
     }
 }

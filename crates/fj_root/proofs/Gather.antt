@@ -1,5 +1,5 @@
 -- Gathering the terms of a polynomial by the residues of their monomials: one term more, and what has come together.
-use Rattle.std.proofs.Common.{◌≡◌, ◌≢◌, ℕ, zero, suc, ◌+◌, ◌<◌, ◌≤◌, ◌^◌, List, [], ◌∷◌, ◌++◌, length, take, drop, get_or, slice_get, map, All, Option, None, Some, Bool, true, false, refl, sym, ap, ap₂, ◌∙◌, subst, arith, if◌then◌else◌}
+use Rattle.std.proofs.Common.{◌≡◌, ◌≢◌, ℕ, ◌+◌, ◌<◌, ◌^◌, List, [], ◌∷◌, ◌++◌, length, take, drop, get_or, slice_get, All, Option, None, Some, Bool, true, false, refl, sym, ap, ◌∙◌, subst, arith}
 use Rattle.std.proofs.lemmas.List.{take_more, length_push, get_or_append_left, get_or_push}
 use Rattle.std.proofs.lemmas.List.Elements.{All-take}
 use Rattle.std.proofs.lemmas.Option.{get_or_from_slice_get}
@@ -9,9 +9,9 @@ use Rattle.std.specs.declared.cmp.Ordering.TheVariants.{Greater}
 use Rattle.fj_coeff.specs.Field.{Field, IsField}
 use Rattle.fj_theory.specs.Exponents.{IsExponents, plus, times, quotient_by, residue_by}
 use Rattle.fj_theory.specs.MonomialOrder.{IsMonomialOrder, compare_by}
-use Rattle.fj_theory.specs.Polynomial.{Polynomial, IsPolynomial, IsTerm, IsFalling, terms_falling}
+use Rattle.fj_theory.specs.Polynomial.{Polynomial, IsTerm, IsFalling}
 use Rattle.fj_theory.specs.Parts.{part_terms, iterated_root}
-use Rattle.fj_theory.proofs.FormalSum.{same, same_true, same_itself, same_false}
+use Rattle.fj_theory.proofs.FormalSum.{same, same_true, same_itself}
 use Rattle.fj_theory.proofs.Residues.{residue_by-plus, quotient_by-plus}
 use Rattle.fj_theory.proofs.PartsExistence.{part_terms_push, IsFalling-part_terms}
 use Rattle.fj_mono.specs.Monomial.{Monomial, same_monomial}

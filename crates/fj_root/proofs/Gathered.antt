@@ -1,6 +1,6 @@
 -- What is gathered from all terms of a polynomial is the list of its parts.
-use Rattle.std.proofs.Common.{◌≡◌, ◌≢◌, ℕ, ◌<◌, ◌≤◌, ◌^◌, List, [], ◌∷◌, length, get_or, slice_get, map, sum, All, Option, None, Some, Bool, true, false, ◌||◌, ◌%◌, refl, sym, ap, ◌∙◌, subst, arith, cond}
-use Rattle.std.specs.BTreeMap.{BTreeMap, IsOrdered, get, keys, is_at}
+use Rattle.std.proofs.Common.{◌≡◌, ◌≢◌, ℕ, ◌<◌, ◌≤◌, ◌^◌, List, [], ◌∷◌, get_or, map, sum, All, Option, None, Some, Bool, true, false, ◌||◌, ◌%◌, refl, sym, ap, ◌∙◌, subst, arith, cond}
+use Rattle.std.specs.BTreeMap.{BTreeMap, IsOrdered, get, is_at}
 use Rattle.std.specs.Map.{lookup}
 use Rattle.std.specs.List.{list_any}
 use Rattle.std.specs.List.Sorted.{IsStrictlySortedBy}
@@ -9,15 +9,14 @@ use Rattle.std.specs.Cmp.Lexicographic.{slice_cmp}
 use Rattle.std.specs.Ordering.{nat_cmp}
 use Rattle.std.proofs.lemmas.Cmp.{nat_list_cmp_total, on_total}
 use Rattle.std.proofs.Math.Nat.{mod-le}
-use Rattle.std.proofs.lemmas.Bool.{true≢false}
 use Rattle.std.proofs.lemmas.List.{nil_from_length}
-use Rattle.std.proofs.lemmas.List.Elements.{All-map, All-weaker}
+use Rattle.std.proofs.lemmas.List.Elements.{All-map}
 use Rattle.std.proofs.lemmas.Option.{slice_get-get_or, none-some}
 use Rattle.std.proofs.lemmas.Map.Entries.{btree_map_get_place}
 use Rattle.fj_coeff.specs.Field.{Field, IsField}
-use Rattle.fj_theory.specs.Exponents.{IsExponents, quotient_by, residue_by, total}
+use Rattle.fj_theory.specs.Exponents.{IsExponents, quotient_by, residue_by}
 use Rattle.fj_theory.specs.MonomialOrder.{IsMonomialOrder, IsRising, lex_key}
-use Rattle.fj_theory.specs.Polynomial.{Polynomial, IsPolynomial, IsTerm, IsFalling, terms_falling, coefficient}
+use Rattle.fj_theory.specs.Polynomial.{Polynomial, IsPolynomial, IsTerm, terms_falling, coefficient}
 use Rattle.fj_theory.specs.Parts.{Part, IsParts, part_terms, iterated_root}
 use Rattle.fj_theory.proofs.Exponents.{total-cons}
 use Rattle.fj_theory.proofs.FormalSum.{same, same_true}

@@ -1,5 +1,5 @@
 -- Powers of the characteristic in a machine word.
-use Rattle.std.proofs.Common.{◌≡◌, ℕ, ◌<◌, ◌≤◌, ◌^◌, Contains, arith}
+use Rattle.std.proofs.Common.{ℕ, ◌<◌, ◌≤◌, ◌^◌, Contains, arith}
 use Rattle.std.proofs.Math.Nat.{pow-le-pow_left, pow-le-pow_right}
 use Rattle.fj_coeff.specs.Field.{primes}
 use Rattle.fj_coeff.specs.PrimeFieldLaws.{prime_bounds}

@@ -2,9 +2,13 @@
 //! characteristic.
 #![tactic(auto)]
 
+mod frobenius_power;
 mod part;
+mod root;
 
+pub use frobenius_power::frob_power;
 pub use part::{Part, parts};
+pub use root::{root_gens, root_list};
 
 #[cfg(test)]
 mod tests;

@@ -8,6 +8,7 @@ ghost use Rattle.fj_mono.specs.Monomial.{Monomial};
 ghost use Rattle.fj_root.specs.Groups.{IsGroup, gathered_parts, lex, terms_at};
 ghost use Rattle.fj_root.specs.Part.{parts_of};
 
+use crate::frobenius_power::frobenius_exponent;
 use fj_coeff::Coeff;
 use fj_mono::{Mono, Order};
 use fj_poly::Poly;
@@ -22,14 +23,6 @@ pub struct Part<K: Coeff, O: Order> {
 
     /// The part, which isn't zero.
     pub poly: Poly<K, O>,
-}
-
-/// The power p^e of the characteristic, e at most 12.
-fn frobenius_exponent<K: Coeff>(e: u32) -> u64
-    requires { e ≤ 12 }
-    ensures { result ≡ K.field.characteristic ^ e }
-{
-    K::P.pow(e)
 }
 
 /// The e-fold root of a coefficient.

@@ -16,6 +16,7 @@ pub mod Threshold
 pub mod ThresholdGap
 pub mod LeftLimit
 pub mod ConstantInside
+pub mod RightLimit
 pub mod Chain
 pub mod PeriodValue
 pub mod ChainLimit
@@ -25,3 +26,5 @@ pub mod FermatCubic
 pub mod MonomialRoot
 pub mod PowersOfVariable
 pub mod InnerPoint
+pub mod TermSum
+pub mod Cusp

@@ -1,4 +1,4 @@
--- Chains of Frobenius roots, one digit of an exponent at a time.
+-- Chains of Frobenius roots, one digit of an exponent at a time. They are the project's own way to test ideals.
 use Rattle.std.specs.Prelude.{◌≡◌, ℕ, ◌^◌, List, [], ◌∷◌}
 use Rattle.fj_coeff.specs.Field.{Field}
 use Rattle.fj_theory.specs.Polynomial.{Polynomial, power}

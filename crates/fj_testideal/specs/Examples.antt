@@ -1,13 +1,15 @@
--- Examples over fields of characteristic 2. They tell the definitions from readings that are near to them.
+-- Examples over fields of characteristic 2 and over GF(5). They tell the definitions from readings that are near to them.
 use Rattle.std.specs.Prelude.{◌≡◌, ℕ, ◌^◌, [], ◌∷◌}
 use Rattle.std.proofs.Common.{lit<}
 use Rattle.fj_coeff.specs.Field.{Field, IsField}
-use Rattle.fj_theory.specs.Polynomial.{Polynomial, power, term}
+use Rattle.fj_coeff.specs.PrimeField.{prime_field}
+use Rattle.fj_theory.specs.Polynomial.{Polynomial, sum, power, term}
 use Rattle.fj_theory.specs.Fraction.{Fraction, ceil_times}
-use Rattle.fj_theory.specs.Digits.{digits}
+use Rattle.fj_theory.specs.Digits.{digits, IsExpansion}
 use Rattle.fj_theory.specs.Root.{IsRoot}
 use Rattle.fj_testideal.specs.TestIdeal.{IsTestIdeal, IsLeftLimit}
-use Rattle.fj_testideal.specs.Chain.{IsLimit}
+use Rattle.fj_testideal.specs.Jump.{IsJump}
+use Rattle.fj_testideal.specs.Chain.{FollowsDigits, IsLimit}
 
 -- x^n, x the first variable.
 abbrev pub x : ℕ → Polynomial
@@ -51,3 +53,27 @@ pub record UsesLowestFirst (F : Field) : Type 0 where
 
 abbrev pub LowestDigitComesFirst : Type 0
 LowestDigitComesFirst = (F : Field) → IsField F → F.characteristic ≡ 2 → UsesLowestFirst F
+
+-- x^i y^j, and x^2 + y^3 over GF(5).
+abbrev pub xy : ℕ → ℕ → Polynomial
+xy i j = term 1 (i ∷ j ∷ 0 ∷ 0 ∷ 0 ∷ 0 ∷ 0 ∷ 0 ∷ [])
+
+abbrev pub cusp : Polynomial
+cusp = sum (prime_field 5) (xy 2 0) (xy 0 3)
+
+abbrev pub four_fifths : Fraction
+four_fifths = record { numerator = 4; denominator = 5; positive = lit< tt }
+
+-- Over GF(5), for f = x^2 + y^3 and t = 4/5, which has the digit 3 before the period and the period 4: the chain from (f) leads
+-- to (y, x), the test ideal, and the chain from (1) to (1), the left limit. So 4/5 is an F-jumping number, and a falling chain
+-- from (f) would miss it.
+pub record IsCuspOverFive : Type 0 where
+  pub expansion : IsExpansion 5 four_fifths (record { prime = 5; pre = 3 ∷ []; period = 4 ∷ [] })
+  pub limit_from_f : IsLimit (prime_field 5) cusp (4 ∷ []) (cusp ∷ []) (cusp ∷ [])
+  pub digits_from_f : FollowsDigits (prime_field 5) cusp (3 ∷ []) (cusp ∷ []) (xy 0 1 ∷ xy 1 0 ∷ [])
+  pub limit_from_one : IsLimit (prime_field 5) cusp (4 ∷ []) (xy 0 0 ∷ []) (xy 0 1 ∷ xy 1 0 ∷ [])
+  pub digits_from_one : FollowsDigits (prime_field 5) cusp (3 ∷ []) (xy 0 1 ∷ xy 1 0 ∷ []) (xy 0 0 ∷ [])
+  pub test_ideal : IsTestIdeal (prime_field 5) cusp four_fifths (xy 0 1 ∷ xy 1 0 ∷ [])
+  pub left_limit : IsLeftLimit (prime_field 5) cusp four_fifths (xy 0 0 ∷ [])
+  pub is_jump : IsJump (prime_field 5) cusp four_fifths
+  pub apart : IsLeftLimit (prime_field 5) cusp four_fifths (xy 0 1 ∷ xy 1 0 ∷ []) → ⊥

@@ -55,3 +55,14 @@ abbrev pub ConstancyGoesInside : Type 0
 ConstancyGoesInside =
     (F : Field) → IsField F → (f : Polynomial) → IsPolynomial F f → (s t : Fraction) → compare s t ≡ Less
     → (constant : IsConstant F f s t) → IsConstantInside F f s t constant.ideal
+
+-- tau is constant on some [t, u), u above t, where f isn't zero.
+pub record IsConstantAfter (F : Field) (f : Polynomial) (t : Fraction) : Type 0 where
+  pub end : Fraction
+  pub is_above : compare t end ≡ Less
+  pub constant : IsConstant F f t end
+
+abbrev pub TestIdealsStayAbove : Type 0
+TestIdealsStayAbove =
+    (F : Field) → IsField F → (f : Polynomial) → IsPolynomial F f → (n : ℕ) → degree f ≡ Some n
+    → (t : Fraction) (T : List Polynomial) → IsTestIdeal F f t T → IsConstantAfter F f t

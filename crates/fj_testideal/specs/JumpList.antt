@@ -1,4 +1,4 @@
--- The F-jumping numbers among the candidates, and the gaps in which others may lie.
+-- The F-jumping numbers among the candidates, and the gaps in which others may lie. The candidates are the project's own.
 use Rattle.std.specs.Prelude.{ℕ, List, [], All, Any, map, Contains}
 use Rattle.std.specs.List.Sorted.{IsStrictlySortedBy}
 use Rattle.fj_coeff.specs.Field.{Field}

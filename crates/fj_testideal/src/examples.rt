@@ -1,7 +1,7 @@
 //! Examples that tell the definitions from readings near to them, and test ideals of monomials. A function of this module
 //! does nothing: its clause is the theorem, and the check proves it.
 
-ghost use Rattle.fj_testideal.specs.Examples.{FallingChainStartsAtOne, LowestDigitComesFirst, OneRootIsNoLimit};
+ghost use Rattle.fj_testideal.specs.Examples.{FallingChainStartsAtOne, IsCuspOverFive, LowestDigitComesFirst, OneRootIsNoLimit};
 ghost use Rattle.fj_testideal.specs.MonomialLaws.{LimitsOfMonomials};
 ghost use Rattle.fj_testideal.specs.SearchExamples.{InnerPointSettlesNoGap, OneExponentTellsNoThreshold};
 
@@ -34,4 +34,10 @@ pub fn inner_point_settles_no_gap()
 /// A number may be as the threshold at e = 1 and not be it: x^3 + y^3 + z^3 and 3/4 over GF(5).
 pub fn one_exponent_tells_no_threshold()
     ensures { OneExponentTellsNoThreshold }
+{}
+
+/// The cusp x^2 + y^3 over GF(5) at 4/5: the test ideal is (y, x) and the left limit (1), and 4/5 is an F-jumping number. A
+/// falling chain from (f) would give (y, x) for both.
+pub fn cusp_over_five()
+    ensures { IsCuspOverFive }
 {}

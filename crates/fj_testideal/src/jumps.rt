@@ -1,7 +1,7 @@
 //! Theorems on F-jumping numbers and on intervals on which the test ideal is constant, over the definitions alone. A function
 //! of this module does nothing: its clause is the theorem, and the check proves it.
 
-ghost use Rattle.fj_testideal.specs.JumpLaws.{ConstancyByEnds, ConstancyGoesInside, JumpsAreDifferences, OneIsJump, OpenGapsHoldChanges};
+ghost use Rattle.fj_testideal.specs.JumpLaws.{ConstancyByEnds, ConstancyGoesInside, JumpsAreDifferences, OneIsJump, OpenGapsHoldChanges, TestIdealsStayAbove};
 
 /// A number is an F-jumping number exactly where test ideal and left limit differ.
 pub fn jumps_are_differences()
@@ -26,4 +26,9 @@ pub fn open_gaps_hold_changes()
 /// An interval on which the test ideal is constant has one test ideal and one left limit inside, and no F-jumping number.
 pub fn constancy_goes_inside()
     ensures { ConstancyGoesInside }
+{}
+
+/// Above each exponent the test ideal stays the same for a while, where f isn't zero.
+pub fn test_ideals_stay_above()
+    ensures { TestIdealsStayAbove }
 {}

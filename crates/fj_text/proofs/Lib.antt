@@ -1,6 +1,15 @@
 pub mod Numbers
 pub mod Tokens
 pub mod Places
+pub mod Joined
+pub mod TermText
+pub mod PrintedTokens
+pub mod PrintedPieces
+pub mod SmallPolynomials
+pub mod PrintedReading
+pub mod PrintedValues
+pub mod PrintedLaw
+pub mod FirstVariables
 pub mod Readers
 pub mod Values
 pub mod Repeats

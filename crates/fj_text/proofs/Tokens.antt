@@ -24,10 +24,10 @@ tokens-blank column [] = refl
 tokens-blank column (b ∷ bytes) =
     elim (cases_Bool (is_blank b)) [
       | inl blank ↦
-      let n = prefix_len is_blank bytes in
-      let one : 1 + n ≡ suc n = omega arith in
-      let same : column + 1 + n ≡ column + suc n = omega arith in
-      rw blank (rw one (tokens-blank (column + 1) bytes ∙ ap (λ m. tokens_from zero m (drop n bytes)) same))
+          let n = prefix_len is_blank bytes in
+          let one : 1 + n ≡ suc n = omega arith in
+          let same : column + 1 + n ≡ column + suc n = omega arith in
+          rw blank (rw one (tokens-blank (column + 1) bytes ∙ ap (λ m. tokens_from zero m (drop n bytes)) same))
       | inr other ↦ rw (other, add-zero column, other) refl
     ]
 
@@ -65,8 +65,8 @@ blank-front [] = refl
 blank-front (b ∷ bytes) =
     elim (cases_Bool (is_blank b)) [
       | inl blank ↦
-      let one : 1 + prefix_len is_blank bytes ≡ suc (prefix_len is_blank bytes) = omega arith in
-      rw blank (rw one (blank-front bytes))
+          let one : 1 + prefix_len is_blank bytes ≡ suc (prefix_len is_blank bytes) = omega arith in
+          rw blank (rw one (blank-front bytes))
       | inr other ↦ rw other (rw other refl)
     ]
 

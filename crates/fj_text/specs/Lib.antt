@@ -1,7 +1,9 @@
 pub mod Word
+pub mod Printed
 pub mod Token
 pub mod State
 pub mod Seen
 pub mod Expression
 pub mod Reading
 pub mod Variable
+pub mod PrintedLaws

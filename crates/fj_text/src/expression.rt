@@ -144,13 +144,13 @@ fn exponent(reader: &mut Reader) -> Result<u64, ReadFault>
         return Err(reader.unexpected().into());
     };
     match token {
-        Token::Number(n) => {
-            if n >= WIDE {
+        Token::Number(k) => {
+            if k >= WIDE {
                 Err(reader.fault(Cause::Wide).into())
-            } else if n > MAX_EXPONENT {
+            } else if k > MAX_EXPONENT {
                 Err(reader.fault(Cause::Large).into())
             } else {
-                Ok(n)
+                Ok(k)
             }
         }
         Token::BadByte => Err(reader.fault(Cause::Byte).into()),
@@ -319,11 +319,11 @@ fn sum<K: Coeff, S: Scope>(
         (sum_at K.field (S.meaning scope.now) (parenthesised K.field (S.meaning scope.now) depth) reader.old) }
     ensures taken { IfOk result (λ _. length reader.new.left < length reader.old.left) }
 {
-    let mut value = first_term(alloc, scope, reader, depth)?;
-    'terms: while let Some(sum) = plus_term(alloc, scope, reader, depth, &value)? {
-        value = sum;
+    let mut total = first_term(alloc, scope, reader, depth)?;
+    'terms: while let Some(sum) = plus_term(alloc, scope, reader, depth, &total)? {
+        total = sum;
     }
-    Ok(value)
+    Ok(total)
 }
 
 /// What stands behind an opening parenthesis, up to the closing one. In it at most `depth` - 1 more may be nested.

@@ -3,7 +3,9 @@
 
 mod expression;
 mod fault;
+pub mod laws;
 mod names;
+mod printed;
 mod read;
 mod reader;
 mod scope;
@@ -12,6 +14,7 @@ mod token;
 pub use expression::read_expression;
 pub use fault::{Cause, Fault, ReadFault, TextFault};
 pub use names::Names;
+pub use printed::{print_list, print_poly, print_ratio};
 pub use read::read_expr;
 pub use reader::Reader;
 pub use scope::{Meaning, Scope};

@@ -1,5 +1,5 @@
 //! Expressions in the variables of a ring.
-ghost use Rattle.std.specs.Prelude.{◌≡◌, ◌≤◌, ◌≢◌, length, All};
+ghost use Rattle.std.specs.Prelude.{◌≤◌, length};
 ghost use Rattle.fj_text.specs.Reading.{GivesText, text_at};
 
 use super::expression::read_expression;
@@ -38,7 +38,7 @@ impl Scope for Names {
 /// The expression goes on as far as it can. The token behind it isn't judged, but for a bad byte.
 ///
 /// The fault is the first one, from left to right, and at one place the one that is named first here:
-/// - `Byte`: a byte that begins no token;
+/// - `Byte`: a byte that begins no token, as an LF is;
 /// - `Syntax`: a token that can't stand there, or a line that ends too early, then behind its last token, and at
 ///   `from` where the whole line holds no token;
 /// - `UnknownVar`: a word that is no variable;
@@ -52,8 +52,7 @@ pub fn read_expr<K: Coeff>(
     from: usize,
     vars: &Names,
 ) -> Result<(GPoly<K>, usize), TextFault>
-    requires inside { from ≤ length line.now }
-    requires one_line { All (λ b. b ≢ 10) line.now }
+    requires { from ≤ length line.now }
     ensures { GivesText result (text_at K.field vars.now line.now from) }
 {
     let mut reader = Reader::new(line, from);

@@ -8,7 +8,8 @@ use Rattle.fj_coeff.specs.Field.{Field, IsField}
 use Rattle.fj_coeff.specs.Field as field
 use Rattle.fj_theory.specs.Exponents.{IsExponents, plus, minus, times, divides, quotient_by, residue_by}
 use Rattle.fj_theory.specs.Polynomial.{Polynomial, IsPolynomial, coefficient, term, product, power}
-use Rattle.fj_theory.specs.Parts.{Part, IsParts, sum_of_parts, part_at, iterated_root}
+use Rattle.fj_theory.specs.Parts.{Part, IsParts, sum_of_parts, part_at}
+use Rattle.fj_theory.specs.PartTerms.{iterated_root}
 use Rattle.fj_theory.proofs.Exponents.{IsExponents-times, IsExponents-minus, plus_comm, plus-minus, length-times, IsExponents-plus}
 use Rattle.fj_theory.proofs.Field.{zero_below, one_below}
 use Rattle.fj_theory.proofs.FormalSum.{same, same_true, same_itself}

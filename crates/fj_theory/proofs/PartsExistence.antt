@@ -10,7 +10,8 @@ use Rattle.fj_coeff.specs.Field.{Field, IsField}
 use Rattle.fj_theory.specs.Exponents.{IsExponents, plus, times, quotient_by, residue_by}
 use Rattle.fj_theory.specs.MonomialOrder.{compare_by, IsMonomialOrder, IsRising, lex_key}
 use Rattle.fj_theory.specs.Polynomial.{Polynomial, IsPolynomial, IsFalling, coefficient, support, with_coefficients}
-use Rattle.fj_theory.specs.Parts.{Part, IsParts, part_terms, iterated_root}
+use Rattle.fj_theory.specs.Parts.{Part, IsParts}
+use Rattle.fj_theory.specs.PartTerms.{part_terms, iterated_root}
 use Rattle.fj_theory.proofs.Product.{entries_coefficients}
 use Rattle.fj_theory.proofs.PartsList.{part_terms_nonzero, IsParts-from_part_terms}
 use Rattle.fj_theory.proofs.Polynomial.{support-with_coefficients, coefficient-with_coefficients, support_listed}

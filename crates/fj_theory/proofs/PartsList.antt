@@ -12,7 +12,8 @@ use Rattle.fj_coeff.specs.Field as field
 use Rattle.fj_theory.specs.MonomialOrder.{IsRising, lex_key}
 use Rattle.fj_theory.specs.Exponents.{IsExponents, residue_by, plus, quotient_by, times}
 use Rattle.fj_theory.specs.Polynomial.{Polynomial, IsTerm, coefficient, IsPolynomial}
-use Rattle.fj_theory.specs.Parts.{Part, IsParts, part_at, part_terms, iterated_root}
+use Rattle.fj_theory.specs.Parts.{Part, IsParts, part_at}
+use Rattle.fj_theory.specs.PartTerms.{part_terms, iterated_root}
 use Rattle.fj_theory.proofs.Field.{zero_below}
 use Rattle.fj_theory.proofs.Terms.{coefficient-from_entries_cons, IsPolynomial-from_entries, find_All}
 use Rattle.fj_theory.proofs.Roots.{iterated_root_positive, iterated_root_below, iterated_root_zero, power-iterated_root}

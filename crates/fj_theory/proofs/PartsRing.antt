@@ -9,7 +9,8 @@ use Rattle.fj_coeff.specs.Field as field
 use Rattle.fj_algebra.specs.Parts as ring
 use Rattle.fj_theory.specs.Exponents.{IsExponents, origin, plus, times, residue_by}
 use Rattle.fj_theory.specs.Polynomial.{Polynomial, IsPolynomial, coefficient, term, sum, product, IsTerm}
-use Rattle.fj_theory.specs.Parts.{Part, sum_of_parts, part_at, part_terms, iterated_root}
+use Rattle.fj_theory.specs.Parts.{Part, sum_of_parts, part_at}
+use Rattle.fj_theory.specs.PartTerms.{part_terms, iterated_root}
 use Rattle.fj_theory.proofs.Exponents.{IsExponents-origin, plus_origin, origin_plus, IsExponents-times, times_origin}
 use Rattle.fj_theory.proofs.Product.{K}
 use Rattle.fj_theory.proofs.Monomial.{rank_power}

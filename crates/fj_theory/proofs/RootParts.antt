@@ -9,7 +9,8 @@ use Rattle.fj_algebra.specs.Root as ring_root
 use Rattle.fj_algebra.proofs.Root as ring_laws
 use Rattle.fj_algebra.proofs.Lists.{All-map_back}
 use Rattle.fj_theory.specs.Exponents.{IsExponents, origin}
-use Rattle.fj_theory.specs.Parts.{Part, IsParts, sum_of_parts, part_terms}
+use Rattle.fj_theory.specs.Parts.{Part, IsParts, sum_of_parts}
+use Rattle.fj_theory.specs.PartTerms.{part_terms}
 use Rattle.fj_theory.specs.Polynomial.{Polynomial, IsPolynomial, product, power, term}
 use Rattle.fj_theory.specs.Ideal.{ArePolynomials, Member, Inside, multiples}
 use Rattle.fj_theory.specs.FrobeniusPower.{frobenius_power}

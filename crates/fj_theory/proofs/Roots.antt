@@ -7,7 +7,7 @@ use Rattle.fj_algebra.specs.Power as ring
 use Rattle.fj_algebra.specs.Ring.{RingMap, subtract}
 use Rattle.fj_algebra.proofs.Power.{power-power, power-1}
 use Rattle.fj_algebra.proofs.Ring.{zero_mul, equal_from_subtract, keeps_subtract, subtract_self}
-use Rattle.fj_theory.specs.Parts.{iterated_root}
+use Rattle.fj_theory.specs.PartTerms.{iterated_root}
 use Rattle.fj_theory.proofs.Field.{Element, element_equal, zero_below, rank_zero, rank_one, rank_mul}
 use Rattle.fj_theory.proofs.Product.{K}
 use Rattle.fj_theory.proofs.Monomial.{rank_power, power_below}

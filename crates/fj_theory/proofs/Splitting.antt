@@ -15,7 +15,8 @@ use Rattle.fj_algebra.proofs.Parts.{part_from, part-add, part-power_mul}
 use Rattle.fj_algebra.proofs.Splitting as ring_laws
 use Rattle.fj_theory.specs.Exponents.{IsExponents}
 use Rattle.fj_theory.specs.Polynomial.{Polynomial, IsPolynomial, sum, product, power, term}
-use Rattle.fj_theory.specs.Parts.{Part, IsParts, sum_of_parts, part_at, iterated_root}
+use Rattle.fj_theory.specs.Parts.{Part, IsParts, sum_of_parts, part_at}
+use Rattle.fj_theory.specs.PartTerms.{iterated_root}
 use Rattle.fj_theory.specs.Splitting.{weighted_sum, IsInverseLinear, top_residue}
 use Rattle.fj_theory.specs.SplittingLaws.{IsLinearOverPowers, IsTraceOf}
 use Rattle.fj_theory.proofs.Field.{zero_below, one_below}

@@ -7,7 +7,7 @@ use Rattle.fj_coeff.specs.Field.{Field, IsField}
 use Rattle.fj_algebra.specs.Splitting as ring
 use Rattle.fj_theory.specs.Exponents.{IsExponents, plus, minus, times, divides}
 use Rattle.fj_theory.specs.Polynomial.{coefficient, term, product}
-use Rattle.fj_theory.specs.Parts.{iterated_root}
+use Rattle.fj_theory.specs.PartTerms.{iterated_root}
 use Rattle.fj_theory.specs.Splitting.{top_residue}
 use Rattle.fj_theory.proofs.Exponents.{IsExponents-plus, IsExponents-minus, IsExponents-times, plus_comm, plus_assoc, plus-minus}
 use Rattle.fj_theory.proofs.Field.{zero_below, one_below}

@@ -1,6 +1,7 @@
 pub mod Exponents
 pub mod MonomialOrder
 pub mod Polynomial
+pub mod PartTerms
 pub mod Parts
 pub mod Fraction
 pub mod Digits

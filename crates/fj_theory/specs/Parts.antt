@@ -1,28 +1,18 @@
 -- The parts of a polynomial over its q-th powers (Blickle, Mustață and Smith 2008, section 2).
-use Rattle.std.specs.Prelude.{◌≡◌, ◌≢◌, ℕ, zero, suc, ◌^◌, ◌<◌, if◌then◌else◌, List, [], ◌∷◌, All, map}
+use Rattle.std.specs.Prelude.{◌≡◌, ◌≢◌, ℕ, ◌<◌, if◌then◌else◌, List, [], ◌∷◌, All, map}
 use Rattle.std.specs.FinMap.{empty}
 use Rattle.std.specs.Ordering.{nat_cmp, eq_by_cmp}
 use Rattle.std.specs.Cmp.Lexicographic.{slice_cmp}
 use Rattle.fj_coeff.specs.Field.{Field}
-use Rattle.fj_theory.specs.Exponents.{IsExponents, quotient_by, residue_by}
+use Rattle.fj_theory.specs.Exponents.{IsExponents}
 use Rattle.fj_theory.specs.MonomialOrder.{lex_key, IsRising}
 use Rattle.fj_theory.specs.Polynomial.{Polynomial, IsPolynomial, sum, product, power, term}
+unfoldable pub use Rattle.fj_theory.specs.PartTerms.{iterated_root, part_terms}
 
 -- The part of a polynomial at a residue.
 pub record Part : Type 0 where
   pub residue : List ℕ
   pub polynomial : Polynomial
-
--- The p^e-th root of an element of the field: the p-th root, e times.
-unfoldable pub iterated_root : Field → ℕ → ℕ → ℕ
-iterated_root F zero c = c
-iterated_root F (suc e) c = iterated_root F e (F.root c)
-
--- The terms of the part at the residue a: of each term c * x^(q * b + a) of the list, q = p^e, the term root(c) * x^b.
-unfoldable pub part_terms : Field → ℕ → List ℕ → List (List ℕ × ℕ) → List (List ℕ × ℕ)
-part_terms F e a [] = []
-part_terms F e a (t ∷ ts) =
-    if eq_by_cmp (slice_cmp nat_cmp) a (residue_by (F.characteristic ^ e) t.0) then (quotient_by (F.characteristic ^ e) t.0, iterated_root F e t.1) ∷ part_terms F e a ts else part_terms F e a ts
 
 -- The part at a residue in a list of parts, and zero where none is listed.
 unfoldable pub part_at : List Part → List ℕ → Polynomial

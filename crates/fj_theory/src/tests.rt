@@ -1,6 +1,8 @@
 //! Small sums, products, parts and reduced bases, calculated by a plain program as they are defined. They are compared
 //! with rows that were worked by hand.
 
+ghost use Rattle.std.specs.Prelude.{◌<◌};
+
 mod plain;
 
 use fj_coeff::{Coeff, Fp};
@@ -32,17 +34,18 @@ fn list<K: Coeff>(alloc: Global, rows: &[Row<'_>]) -> Result<List<K>, AllocError
     Ok(list)
 }
 
-// The reduced basis of the first list has these members, in this order.
+// The reduced basis of the list has these members, in this order.
 fn has_basis<K: Coeff>(
     rt: &(impl AllocGlobal + Abort),
     order: Order,
-    generators: &[Row<'_>],
+    list: List<K>,
     rows: &[Row<'_>],
 ) -> Result<(), Fail> {
-    let basis: List<K> = reduced_basis(order, list(rt.alloc(), generators)?)?;
-    let expected: List<K> = list(rt.alloc(), rows)?;
-    assert_eq!(rt; basis.len(), expected.len());
-    assert!(rt; basis.iter().zip(&expected).all(|(f, g)| f.same(g)));
+    let basis = reduced_basis(order, list)?;
+    assert_eq!(rt; basis.len(), rows.len());
+    for (f, row) in basis.iter().zip(rows) {
+        assert!(rt; f.same(&poly(rt.alloc(), row)?));
+    }
     Ok(())
 }
 
@@ -60,11 +63,11 @@ fn sums_and_products(rt: HostRuntime) -> Result<(), Fail> {
     assert!(rt; x.sum(&x)?.terms.is_empty());
     let line: Polynomial<Fp<5>> = poly(alloc, X)?.sum(&poly(alloc, Y)?)?;
     let square = poly(alloc, &[([2, 0, 0], 1), ([1, 1, 0], 2), ([0, 2, 0], 1)])?;
-    assert!(rt; line.product(&line)?.same(&square));
+    assert!(rt; line.power(2)?.same(&square));
     // Over GF(3), (x + y + z)^3 is x^3 + y^3 + z^3.
     let plane: Polynomial<Fp<3>> = poly(alloc, &[([1, 0, 0], 1), ([0, 1, 0], 1), ([0, 0, 1], 1)])?;
     let cube = poly(alloc, &[([3, 0, 0], 1), ([0, 3, 0], 1), ([0, 0, 3], 1)])?;
-    assert!(rt; plane.product(&plane)?.product(&plane)?.same(&cube));
+    assert!(rt; plane.power(3)?.same(&cube));
     Ok(())
 }
 
@@ -78,8 +81,8 @@ fn parts(rt: HostRuntime) -> Result<(), Fail> {
         let residue = [x, y, 0, 0, 0, 0, 0, 0];
         let part = f.part(3, &residue)?;
         assert!(rt; part.same(&poly(alloc, row)?));
-        let power = part.product(&part)?.product(&part)?;
-        whole = whole.sum(&power.multiple(Fp::one(), &residue)?)?;
+        let summand = part.power(3)?.multiple(Fp::one(), &residue)?;
+        whole = whole.sum(&summand)?;
     }
     // There is no other part.
     assert!(rt; whole.same(&f));
@@ -89,13 +92,71 @@ fn parts(rt: HostRuntime) -> Result<(), Fail> {
 // Over GF(2), the ideal of x^2 + y and x*y + 1 in two orders; over GF(5), that of x*y and x^2 + x*y.
 #[test]
 fn reduced_bases(rt: HostRuntime) -> Result<(), Fail> {
+    let alloc = rt.alloc();
     let first: Row<'_> = &[([2, 0, 0], 1), ([0, 1, 0], 1)];
     let second: Row<'_> = &[([1, 1, 0], 1), ([0, 0, 0], 1)];
-    let generators = [first, second];
     let third: Row<'_> = &[([0, 2, 0], 1), ([1, 0, 0], 1)];
-    has_basis::<Fp<2>>(&rt, Order::Grevlex, &generators, &[third, second, first])?;
+    let by_degree: List<Fp<2>> = list(alloc, &[first, second])?;
+    has_basis(&rt, Order::Grevlex, by_degree, &[third, second, first])?;
     let cube: Row<'_> = &[([0, 3, 0], 1), ([0, 0, 0], 1)];
-    has_basis::<Fp<2>>(&rt, Order::Lex, &generators, &[cube, third])?;
+    let by_name: List<Fp<2>> = list(alloc, &[first, second])?;
+    has_basis(&rt, Order::Lex, by_name, &[cube, third])?;
     let sum: Row<'_> = &[([2, 0, 0], 1), ([1, 1, 0], 1)];
-    has_basis::<Fp<5>>(&rt, Order::Grevlex, &[XY, sum], &[XY, &[([2, 0, 0], 1)]])
+    let mixed: List<Fp<5>> = list(alloc, &[XY, sum])?;
+    has_basis(&rt, Order::Grevlex, mixed, &[XY, &[([2, 0, 0], 1)]])
+}
+
+// The root at 1 of f^(p - 1) for the f of the row, that is, of I^[p] : I for the ideal I of f.
+fn root_of_quotient<K: Coeff>(alloc: Global, p: u64, row: Row<'_>) -> Result<List<K>, AllocError>
+    requires { 0 < p }
+{
+    let f: Polynomial<K> = poly(alloc, row)?;
+    f.power(p - 1)?.parts(p)
+}
+
+// x^3 + y^3 + z^3 is F-pure over GF(7), where this root is (1), and not over GF(5), where it is (x, y, z). x^2 isn't over
+// GF(2), and x^2*y + x^2 is so at (1, 1) and not at (0, 0): their root is (x).
+#[test]
+fn splittings(rt: HostRuntime) -> Result<(), Fail> {
+    let alloc = rt.alloc();
+    let cubes: Row<'_> = &[([3, 0, 0], 1), ([0, 3, 0], 1), ([0, 0, 3], 1)];
+    let one: Row<'_> = &[([0, 0, 0], 1)];
+    has_basis::<Fp<7>>(
+        &rt,
+        Order::Grevlex,
+        root_of_quotient(alloc, 7, cubes)?,
+        &[one],
+    )?;
+    let z: Row<'_> = &[([0, 0, 1], 1)];
+    has_basis::<Fp<5>>(
+        &rt,
+        Order::Grevlex,
+        root_of_quotient(alloc, 5, cubes)?,
+        &[z, Y, X],
+    )?;
+    let square: Row<'_> = &[([2, 0, 0], 1)];
+    has_basis::<Fp<2>>(
+        &rt,
+        Order::Grevlex,
+        root_of_quotient(alloc, 2, square)?,
+        &[X],
+    )?;
+    let curve: Row<'_> = &[([2, 1, 0], 1), ([2, 0, 0], 1)];
+    has_basis::<Fp<2>>(
+        &rt,
+        Order::Grevlex,
+        root_of_quotient(alloc, 2, curve)?,
+        &[X],
+    )
+}
+
+// Over GF(3), (x) is compatible with x^2*y^2 at 1, and (x + y) isn't: the roots of the multiples are (x) and (x, y).
+#[test]
+fn compatible_ideals(rt: HostRuntime) -> Result<(), Fail> {
+    let alloc = rt.alloc();
+    let u: Polynomial<Fp<3>> = poly(alloc, &[([2, 2, 0], 1)])?;
+    let x: Polynomial<Fp<3>> = poly(alloc, X)?;
+    has_basis(&rt, Order::Grevlex, u.product(&x)?.parts(3)?, &[X])?;
+    let line = x.sum(&poly(alloc, Y)?)?;
+    has_basis(&rt, Order::Grevlex, u.product(&line)?.parts(3)?, &[Y, X])
 }

@@ -1,5 +1,5 @@
-//! A plain, slow program beside the definitions: sums, products, parts and reduced bases of small polynomials, as they
-//! are defined, over lists of terms in any order.
+//! A plain, slow program beside the definitions: sums, products, parts and reduced bases of small polynomials, over lists
+//! of terms in any order.
 
 ghost use Rattle.std.specs.Prelude.{◌<◌};
 
@@ -94,6 +94,16 @@ impl<K: Coeff> Polynomial<K> {
         term.product(self)
     }
 
+    // The product of k equal factors.
+    pub fn power(&self, k: u64) -> Made<K> {
+        let mut power = Polynomial::zero(*self.terms.allocator());
+        power.put(&[0; 8], K::one())?;
+        for _ in 0..k {
+            power = power.product(self)?;
+        }
+        Ok(power)
+    }
+
     // The part at a residue in characteristic p: of each term c * x^(p * b + a) the term root(c) * x^b.
     pub fn part(&self, p: u64, residue: &Exponents) -> Made<K>
         requires { 0 < p }
@@ -105,6 +115,17 @@ impl<K: Coeff> Polynomial<K> {
             }
         }
         Ok(part)
+    }
+
+    // The parts at the residues of its terms: each part that isn't zero. They generate the root.
+    pub fn parts(&self, p: u64) -> Result<List<K>, AllocError>
+        requires { 0 < p }
+    {
+        let mut parts = Vec::new(*self.terms.allocator());
+        for (a, _) in &self.terms {
+            parts.push(self.part(p, &a.map(|x| x % p))?)?;
+        }
+        Ok(parts)
     }
 
     pub fn same(&self, g: &Self) -> bool {
@@ -192,8 +213,13 @@ impl<K: Coeff> Polynomial<K> {
 
 pub type List<K> = Vec<Polynomial<K>>;
 
-// The list with the remainders of its S-polynomials that aren't zero. It may grow to at most eight members.
-fn completed<K: Coeff>(order: Order, mut members: List<K>) -> Result<List<K>, AllocError> {
+// The monic polynomials of the list, with the remainders of their S-polynomials that aren't zero. Pairs of the first
+// eight are treated, and that is enough for the rows.
+fn completed<K: Coeff>(order: Order, list: List<K>) -> Result<List<K>, AllocError> {
+    let mut members = Vec::new(*list.allocator());
+    for f in &list {
+        members.push(f.monic(order)?)?;
+    }
     for i in 0..8 {
         for j in 0..i {
             if let (Some(f), Some(g)) = (members.get(i), members.get(j)) {

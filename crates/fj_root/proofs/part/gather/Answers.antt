@@ -1,19 +1,16 @@
-use Rattle.std.proofs.Common.{◌≡◌, ◌≢◌, ◌<◌, ◌≤◌, ◌+◌, ◌^◌, ◌++◌, ◌∷◌, [], ℕ, List, All, Some, None, Option, length, get_or, take, sym, ap, ap₂, ◌∙◌, subst, refl, arith, slice_get, sum}
+use Rattle.std.proofs.Common.{◌≡◌, ◌≤◌, ◌^◌, ◌++◌, ◌∷◌, [], All, take, sym, ap, ◌∙◌, subst, arith, sum}
 use Rattle.std.specs.BTreeMap.{get, is_at}
 use Rattle.std.specs.Map.{lookup}
 use Rattle.std.proofs.lemmas.List.{take_all, take_more}
 use Rattle.std.proofs.lemmas.List.Elements.{All-push}
-use Rattle.std.proofs.lemmas.Option.{get_or_from_slice_get}
-use Rattle.fj_theory.specs.Exponents.{IsExponents, quotient_by, residue_by}
-use Rattle.fj_theory.specs.Polynomial.{IsTerm, IsPolynomial, IsFalling, terms_falling}
+use Rattle.fj_theory.specs.Polynomial.{terms_falling}
 use Rattle.fj_theory.specs.Parts.{part_terms, iterated_root}
 use Rattle.fj_theory.proofs.Frobenius.{power_positive}
 use Rattle.fj_theory.proofs.Terms.{terms_falling-IsFalling, terms_falling-exponents, IsTerm-terms_falling}
 use Rattle.fj_theory.proofs.Roots.{iterated_root_positive}
 use Rattle.fj_mono.specs.Monomial.{Monomial}
-use Rattle.fj_root.specs.Groups.{IsGroup, lex, terms_at, optional_terms}
+use Rattle.fj_root.specs.Groups.{IsGroup, lex, terms_at}
 use Rattle.fj_root.proofs.Gather.{part_terms-nil, nothing_gathered, is_split_at, split_below, split_gathered}
-use Rattle.fj_root.proofs.part.gather.Given as given
 use Rattle.fj_root.proofs.part.gather.Goals as goal
 
 pub loop-i-init : goal.loop-i-init

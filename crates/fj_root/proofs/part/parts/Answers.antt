@@ -1,6 +1,5 @@
 use Rattle.std.proofs.Common.{◌^◌, IfOk, Result, Ok, Err, subst, sym}
 use Rattle.fj_theory.specs.Parts.{IsParts}
-use Rattle.fj_root.specs.Part.{parts_of}
 use Rattle.fj_root.proofs.Gathered.{IsParts-gathered_parts}
 use Rattle.fj_root.proofs.part.parts.Goals as goal
 

@@ -1,4 +1,4 @@
-use Rattle.std.proofs.Common.{refl, ◌≡◌, ◌≢◌, ◌++◌, ◌∷◌, [], sym, ap, ◌∙◌, subst, Some, None, Option, IsSome, MutBor, arith}
+use Rattle.std.proofs.Common.{refl, ◌≡◌, ◌++◌, ◌∷◌, [], sym, ap, ◌∙◌, subst, Some, None, Option, IsSome, MutBor, arith}
 use Rattle.std.specs.BTreeMap.{get}
 use Rattle.std.specs.Option.{option_copied_mut}
 use Rattle.fj_root.specs.Groups.{IsGroup, lex, terms_at, optional_terms}

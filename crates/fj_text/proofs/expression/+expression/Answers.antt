@@ -42,7 +42,7 @@ sum-returns-in_err-sum-clause-reads g t c =
     let meaning = g.S.Scope.meaning c.args.scope.now in
     let inside = parenthesised F meaning c.args.depth in
     let p = err_from_is_err_and c.from_residual-in_err-sum.result c.from_residual-in_err-sum.ensures.1 in
-    rw (p.1, p.2) (reads-refused (plus_term F meaning inside) c.terms.value c.terms.reader c.plus_term.new.reader _ _ c.terms.invariant.repeats (plus_term-left F meaning inside c.terms.value c.terms.reader) c.in_err-sum.ensures.reads)
+    rw (p.1, p.2) (reads-refused (plus_term F meaning inside) c.terms.total c.terms.reader c.plus_term.new.reader _ _ c.terms.invariant.repeats (plus_term-left F meaning inside c.terms.total c.terms.reader) c.in_err-sum.ensures.reads)
 
 pub sum-terms-preserved : goal.sum-terms-preserved
 sum-terms-preserved g t c =
@@ -50,7 +50,7 @@ sum-terms-preserved g t c =
     let meaning = g.S.Scope.meaning c.args.scope.now in
     let turn = plus_term F meaning (parenthesised F meaning c.args.depth) in
     let fewer = of_some _ _ _ c.in-Some.is c.in_ok-sum.ensures.taken in record {
-      repeats = repeat-more turn c.terms.value c.in-Some.sum c.terms.reader c.plus_term.new.reader _ c.terms.invariant.repeats (turn-some _ _ _ _ _ c.in-Some.is c.in_ok-sum.ensures.reads) fewer;
+      repeats = repeat-more turn c.terms.total c.in-Some.sum c.terms.reader c.plus_term.new.reader _ c.terms.invariant.repeats (turn-some _ _ _ _ _ c.in-Some.is c.in_ok-sum.ensures.reads) fewer;
       taken = omega (arith, fewer, c.terms.invariant.taken);
     }
 
@@ -58,7 +58,7 @@ pub sum-returns-clause-reads : goal.sum-returns-clause-reads
 sum-returns-clause-reads g t c =
     let F = g.K.Coeff.field in
     let meaning = g.S.Scope.meaning c.args.scope.now in
-    reads-stopped (plus_term F meaning (parenthesised F meaning c.args.depth)) c.terms.value c.terms.reader c.plus_term.new.reader _ c.terms.invariant.repeats (turn-none _ _ _ _ c.in_default.is c.in_ok-sum.ensures.reads)
+    reads-stopped (plus_term F meaning (parenthesised F meaning c.args.depth)) c.terms.total c.terms.reader c.plus_term.new.reader _ c.terms.invariant.repeats (turn-none _ _ _ _ c.in_default.is c.in_ok-sum.ensures.reads)
 
 pub term-returns-in_err-product-clause-reads : goal.term-returns-in_err-product-clause-reads
 term-returns-in_err-product-clause-reads g t c =

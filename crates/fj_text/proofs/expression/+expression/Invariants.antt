@@ -20,10 +20,10 @@ abbrev pub decreases-term : goal.decreases-term
 decreases-term g l = 8 * l.depth + 4
 
 abbrev pub decreases-first_term : goal.decreases-first_term
-decreases-first_term g l = 8 * l.depth + 5
+decreases-first_term g l = 8 * l.depth + 6
 
 abbrev pub decreases-plus_term : goal.decreases-plus_term
-decreases-plus_term g l = 8 * l.depth + 6
+decreases-plus_term g l = 8 * l.depth + 5
 
 abbrev pub decreases-sum : goal.decreases-sum
 decreases-sum g l = 8 * l.depth + 7
@@ -32,7 +32,7 @@ abbrev pub invariant-sum-terms : goal.invariant-sum-terms
 invariant-sum-terms g l =
     let F = g.K.Coeff.field in
     let meaning = g.S.Scope.meaning l.scope in record {
-      repeats : Repeats (plus_term F meaning (parenthesised F meaning l.depth)) l.value l.reader (sum_at F meaning (parenthesised F meaning l.depth) l.fn.reader);
+      repeats : Repeats (plus_term F meaning (parenthesised F meaning l.depth)) l.total l.reader (sum_at F meaning (parenthesised F meaning l.depth) l.fn.reader);
       taken : length l.reader.left < length l.fn.reader.left;
     }
 

@@ -1,0 +1,7 @@
+use Rattle.std.proofs.Common.{◌≡◌, ◌++◌, take, map, codes}
+use Rattle.fj_text.specs.Printed.{joined, term_bytes}
+use Rattle.fj_text.proofs.printed.push_poly.Given as goal
+
+-- the first terms are printed
+abbrev pub invariant-loop-place : goal.invariant-loop-place
+invariant-loop-place l = l.out.items ≡ l.fn.out.items ++ joined (codes "+") (map (term_bytes l.vars) (take l.place l.h.terms))
