@@ -1,15 +1,1 @@
-pub mod Digits
-pub mod Exponents
-pub mod Fronts
-pub mod Found
-pub mod Gathered
-pub mod Items
-pub mod ListLoop
-pub mod Lines
-pub mod Places
-pub mod TermLoop
-pub mod Terms
-pub mod Texts
-pub mod AnswerTexts
-pub mod Declared
 pub mod Primes
