@@ -1,1 +1,2 @@
 pub mod Primes
+pub mod Known

@@ -1,5 +1,5 @@
 -- The answer to a question, as data: each row of an answer to `parts` is a residue and the part at it.
-use Rattle.std.specs.Prelude.{◌≡◌, ◌≢◌, ℕ, ◌≤◌, ◌^◌, Bool, true, false, Unit, List, All, Some, length, map, slice_get, slice_index}
+use Rattle.std.specs.Prelude.{◌≡◌, ◌≢◌, ℕ, ◌≤◌, ◌^◌, Bool, true, false, List, All, Some, length, map, slice_get, slice_index}
 use Rattle.fj_coeff.specs.Field.{Field}
 use Rattle.fj_coeff.specs.PrimeField.{prime_field}
 use Rattle.fj_theory.specs.MonomialOrder.{elim_key, grevlex_key, grlex_key, lex_key}
@@ -38,7 +38,7 @@ pub record AreParts (env : Env) (order : OrderName) (e place : ℕ) (rows : List
   pub name : List ℕ
   pub f : PlainPolynomial
   pub stands : slice_get env.values place ≡ Some (name, values.Poly f)
-  pub rows : AreRows (prime_field env.p) (key_of order) e (polynomial f) rows
+  pub are : AreRows (prime_field env.p) (key_of order) e (polynomial f) rows
 
 -- The question is one for the parts at e of the name with this place.
 abbrev pub IsForParts : Question → ℕ → ℕ → Type 0

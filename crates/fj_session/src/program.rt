@@ -1,5 +1,5 @@
 //! The program's one call: a session is read, answered and written.
-ghost use Rattle.std.specs.Prelude.{◌≡◌, ◌≢◌, ◌≤◌, ◌<◌, ◌↔◌, ◌×◌, ◌++◌, ◌∷◌, [], ℕ, List, Contains, IsTrue, IfOk, IsErrOf, length, take};
+ghost use Rattle.std.specs.Prelude.{◌≡◌, ◌≢◌, ◌≤◌, ◌<◌, ◌+◌, ◌↔◌, ◌⊎◌, ◌++◌, ◌∷◌, [], ℕ, List, Contains, IsTrue, IfOk, IsErrOf, length, take};
 ghost use Rattle.std.specs.Io.KnownBytes.{Appends};
 ghost use Rattle.fj_io.specs.Outside.{AppendsFront, Rose};
 ghost use Rattle.fj_script.specs.declared.question.Asked as question;
