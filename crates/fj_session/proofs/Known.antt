@@ -1,8 +1,8 @@
 -- What is known of a question for parts in an accepted session.
-use Rattle.std.proofs.Common.{◌≡◌, ℕ, ◌+◌, ◌<◌, ◌≤◌, ◌^◌, List, length, map, All, Contains, Option, Some, None, sym, ap, ◌∙◌, subst, arith}
+use Rattle.std.proofs.Common.{◌≡◌, ℕ, ◌+◌, ◌<◌, ◌≤◌, ◌^◌, List, length, map, All, Contains, Option, option_map, Some, None, sym, ap, ◌∙◌, subst, arith}
 use Rattle.std.specs.List.{slice_get}
 use Rattle.std.proofs.lemmas.List.Elements.{All-contains, All-weaker}
-use Rattle.std.proofs.lemmas.Option.{none-some, same_Some}
+use Rattle.std.proofs.lemmas.Option.{get_or_from_slice_get, none-some, same_Some, slice_get_within}
 use Rattle.fj_coeff.specs.Field.{primes}
 use Rattle.fj_theory.specs.Exponents.{total}
 use Rattle.fj_theory.specs.Plain.{PlainPolynomial, polynomial}
@@ -18,6 +18,9 @@ use Rattle.fj_script.proofs.Accepted.{accepted_sound}
 use Rattle.fj_script.proofs.AcceptedDeclarations.{AreSound, IsSound, IsSoundQuestion, IsSoundValue, NamesPoly}
 use Rattle.fj_session.specs.Answer.{IsForParts}
 use Rattle.fj_session.specs.Asked.{AreOfOneSession, IsPartsQuestion}
+
+contains_at : {X : Type 0} (xs : List X) (i : ℕ) (x : X) → slice_get xs i ≡ Some x → Contains xs x
+contains_at xs i x e = (i, slice_get_within xs i x e, get_or_from_slice_get xs i x x e)
 
 -- The value behind a value that is seen.
 value_behind : (vs : List (List ℕ × held.Value)) (i : ℕ) (name : List ℕ) (terms : Terms) → slice_get (seen_values vs) i ≡ Some (name, Poly terms)
@@ -40,7 +43,7 @@ parts_question env asked e place one is =
     let k = q e place is in
     let there : seen_values env.values ≡ S.values = ap (λ v. seen_values v.values) one.env_there ∙ held.values in
     let behind = value_behind env.values place k.1.name k.1.terms (ap (λ vs. slice_get vs place) there ∙ k.1.is) in
-    let sound : AreSound S.prime (length S.variables) k.1.terms = All-contains (λ v. IsSoundValue S.prime (length S.variables) v.1) S.values (k.1.name, Poly k.1.terms) H.values (Contains-slice_get S.values place _ k.1.is) in
+    let sound : AreSound S.prime (length S.variables) k.1.terms = All-contains (λ v. IsSoundValue S.prime (length S.variables) v.1) S.values (k.1.name, Poly k.1.terms) H.values (contains_at S.values place _ k.1.is) in
     let f = behind.0 in
     let p : env.p ≡ S.prime = ap (λ v. v.p) one.env_there ∙ held.prime in
     let n : length env.vars ≡ length S.variables = ap (λ v. length v.vars) one.env_there ∙ ap length held.variables in

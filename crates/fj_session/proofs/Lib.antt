@@ -1,2 +1,3 @@
 pub mod Primes
 pub mod Known
+pub mod Residues
