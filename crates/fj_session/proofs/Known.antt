@@ -2,11 +2,12 @@
 use Rattle.std.proofs.Common.{◌≡◌, ℕ, ◌+◌, ◌<◌, ◌≤◌, ◌^◌, List, length, map, All, Contains, Option, option_map, Some, None, sym, ap, ◌∙◌, subst, arith}
 use Rattle.std.specs.List.{slice_get}
 use Rattle.std.proofs.lemmas.List.Elements.{All-contains, All-weaker}
-use Rattle.std.proofs.lemmas.Option.{get_or_from_slice_get, none-some, same_Some, slice_get_within}
+use Rattle.std.proofs.lemmas.Option.{get_or_from_slice_get, none-some, same_Some, slice_get-map, slice_get_within}
 use Rattle.fj_coeff.specs.Field.{primes}
 use Rattle.fj_theory.specs.Exponents.{total}
 use Rattle.fj_theory.specs.Plain.{PlainPolynomial, polynomial}
-use Rattle.fj_text.proofs.FirstVariables.{uses_first}
+use Rattle.fj_theory.specs.PointIdeal.{UsesFirst}
+use Rattle.fj_text.proofs.FirstVariables.{AreZeroFrom, uses_first}
 use Rattle.fj_script.specs.declared.question.Asked.{Asked}
 use Rattle.fj_script.specs.declared.script.Env.{Env}
 use Rattle.fj_script.specs.declared.script.Script.{Script}
@@ -27,7 +28,7 @@ value_behind : (vs : List (List ℕ × held.Value)) (i : ℕ) (name : List ℕ) 
     → (f : PlainPolynomial) × (slice_get vs i ≡ Some (name, values.Poly f)) × (f.terms ≡ terms)
 value_behind vs i name terms e = by (slice_get vs i) refl (sym (slice_get-map (λ v. (v.0, seen v.1)) vs i) ∙ e)
   where
-    by : (o : Option (List ℕ × held.Value)) → slice_get vs i ≡ o → option_map (λ v. (v.0, seen v.1)) o ≡ Some (name, Poly terms)
+    by : (o : Option (List ℕ × held.Value)) → slice_get vs i ≡ o → option_map {U = List ℕ × Value} (λ v. (v.0, seen v.1)) o ≡ Some (name, Poly terms)
         → (f : PlainPolynomial) × (slice_get vs i ≡ Some (name, values.Poly f)) × (f.terms ≡ terms)
     by None e h = absurd (none-some _ h)
     by (Some (n, values.Poly f)) e h = let same = same_Some _ _ h in (f, e ∙ ap (λ v. Some (v.0, values.Poly f)) same, cc)

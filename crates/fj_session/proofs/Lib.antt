@@ -1,3 +1,5 @@
 pub mod Primes
 pub mod Known
 pub mod Residues
+pub mod Pieces
+pub mod Variables

@@ -1,5 +1,5 @@
 //! The program's one call: a session is read, answered and written.
-ghost use Rattle.std.specs.Prelude.{◌≡◌, ◌≢◌, ◌≤◌, ◌<◌, ◌+◌, ◌↔◌, ◌⊎◌, ◌++◌, ◌∷◌, [], ℕ, List, Contains, IsTrue, IfOk, IsErrOf, length, take};
+ghost use Rattle.std.specs.Prelude.{◌≡◌, ◌≢◌, ◌≤◌, ◌<◌, ◌+◌, ◌↔◌, ◌⊎◌, ◌++◌, ◌∷◌, [], ℕ, List, Contains, IsTrue, IfOk, IsErrOf, length, take, if◌then◌else◌};
 ghost use Rattle.std.specs.Io.KnownBytes.{Appends};
 ghost use Rattle.fj_io.specs.Outside.{AppendsFront, Rose};
 ghost use Rattle.fj_script.specs.declared.question.Asked as question;
@@ -94,6 +94,13 @@ fn answer_one<K: Sink>(
     Ok(matches!(answer, Answer::Later))
 }
 
+/// The status after one more answer.
+fn status_after(status: u8, is_later: bool) -> u8
+    ensures { result ≡ (if is_later then 3 else status) }
+{
+    if is_later { LATER } else { status }
+}
+
 /// Answers the questions of a session, hands each text to the sink, and answers the status.
 fn answer_all<K: Sink>(alloc: Global, script: &Script, sink: &mut K) -> u8
     requires { (bytes : List ℕ) × IsScriptOf bytes script.now }
@@ -112,12 +119,12 @@ fn answer_all<K: Sink>(alloc: Global, script: &Script, sink: &mut K) -> u8
 {
     let mut status = ANSWERED;
     for i in 0..script.asked.len() {
-        match answer_one(alloc, &script.env, script.asked.get(i), sink) {
-            Ok(true) => status = LATER,
-            Ok(false) => {}
+        let is_later = match answer_one(alloc, &script.env, script.asked.get(i), sink) {
+            Ok(is_later) => is_later,
             Err(Unwritten::WriteFailed) => return WRITE_FAILED,
             Err(Unwritten::NoMemory) => return NO_MEMORY,
-        }
+        };
+        status = status_after(status, is_later);
     }
     status
 }
