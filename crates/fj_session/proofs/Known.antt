@@ -1,5 +1,5 @@
 -- What is known of a question for parts in an accepted session.
-use Rattle.std.proofs.Common.{◌≡◌, ℕ, ◌+◌, ◌<◌, ◌≤◌, ◌^◌, List, length, map, All, Contains, Option, option_map, Some, None, sym, ap, ◌∙◌, subst, arith}
+use Rattle.std.proofs.Common.{◌≡◌, ℕ, ◌<◌, ◌≤◌, ◌^◌, List, length, All, Contains, Option, option_map, Some, None, refl, sym, ap, ◌∙◌, subst, arith}
 use Rattle.std.specs.List.{slice_get}
 use Rattle.std.proofs.lemmas.List.Elements.{All-contains, All-weaker}
 use Rattle.std.proofs.lemmas.Option.{get_or_from_slice_get, none-some, same_Some, slice_get-map, slice_get_within}
@@ -10,18 +10,26 @@ use Rattle.fj_theory.specs.PointIdeal.{UsesFirst}
 use Rattle.fj_text.proofs.FirstVariables.{AreZeroFrom, uses_first}
 use Rattle.fj_script.specs.declared.question.Asked.{Asked}
 use Rattle.fj_script.specs.declared.script.Env.{Env}
-use Rattle.fj_script.specs.declared.script.Script.{Script}
 use Rattle.fj_script.specs.declared.value.Value as held
 use Rattle.fj_script.specs.declared.value.Value.TheVariants as values
-use Rattle.fj_script.specs.Seen.{seen, seen_values}
-use Rattle.fj_script.specs.Session.{Session, Terms, Value, Poly, Ideal, Point}
+use Rattle.fj_script.specs.Seen.{seen, seen_values, terms_of}
+use Rattle.fj_script.specs.Session.{Terms, Value, Poly, Ideal, Point}
 use Rattle.fj_script.proofs.Accepted.{accepted_sound}
-use Rattle.fj_script.proofs.AcceptedDeclarations.{AreSound, IsSound, IsSoundQuestion, IsSoundValue, NamesPoly}
+use Rattle.fj_script.proofs.AcceptedDeclarations.{AreSound, IsSoundQuestion, IsSoundValue}
 use Rattle.fj_session.specs.Answer.{IsForParts}
 use Rattle.fj_session.specs.Asked.{AreOfOneSession, IsPartsQuestion}
 
 contains_at : {X : Type 0} (xs : List X) (i : ℕ) (x : X) → slice_get xs i ≡ Some x → Contains xs x
 contains_at xs i x e = (i, slice_get_within xs i x e, get_or_from_slice_get xs i x x e)
+
+poly_terms : (a b : Terms) → Poly a ≡ Poly b → a ≡ b
+poly_terms a b e = cc
+
+not_ideal : (fs : List Terms) (ts : Terms) → Ideal fs ≡ Poly ts → ⊥
+not_ideal fs ts e = cc
+
+not_point : (cs : List ℕ) (ts : Terms) → Point cs ≡ Poly ts → ⊥
+not_point cs ts e = cc
 
 -- The value behind a value that is seen.
 value_behind : (vs : List (List ℕ × held.Value)) (i : ℕ) (name : List ℕ) (terms : Terms) → slice_get (seen_values vs) i ≡ Some (name, Poly terms)
@@ -31,9 +39,9 @@ value_behind vs i name terms e = by (slice_get vs i) refl (sym (slice_get-map (�
     by : (o : Option (List ℕ × held.Value)) → slice_get vs i ≡ o → option_map {U = List ℕ × Value} (λ v. (v.0, seen v.1)) o ≡ Some (name, Poly terms)
         → (f : PlainPolynomial) × (slice_get vs i ≡ Some (name, values.Poly f)) × (f.terms ≡ terms)
     by None e h = absurd (none-some _ h)
-    by (Some (n, values.Poly f)) e h = let same = same_Some _ _ h in (f, e ∙ ap (λ v. Some (v.0, values.Poly f)) same, cc)
-    by (Some (n, values.Ideal fs)) e h = absurd cc
-    by (Some (n, values.Point cs)) e h = absurd cc
+    by (Some (n, values.Poly f)) e h = let same = same_Some _ _ h in (f, e ∙ ap (λ v. Some (v.0, values.Poly f)) same, poly_terms f.terms terms (ap (λ v. v.1) same))
+    by (Some (n, values.Ideal fs)) e h = absurd (not_ideal (terms_of fs) terms (ap (λ v. v.1) (same_Some _ _ h)))
+    by (Some (n, values.Point cs)) e h = absurd (not_point cs terms (ap (λ v. v.1) (same_Some _ _ h)))
 
 pub parts_question : (env : Env) (asked : Asked) (e place : ℕ) → AreOfOneSession env asked → IsForParts asked.question e place → IsPartsQuestion env e place
 parts_question env asked e place one is =

@@ -1,10 +1,9 @@
 -- Where a polynomial uses the first variables alone, so do its parts and their residues.
-use Rattle.std.proofs.Common.{mul_comm, ◌≡◌, ◌≢◌, ◌⊎◌, inl, inr, Bool, true, false, cond, Option, Some, None, ℕ, zero, suc, ◌+◌, ◌*◌, ◌<◌, ◌≤◌, ◌^◌, List, [], ◌∷◌, length, map, get_or, All, refl, sym, ap, ◌∙◌, subst, arith, eq-zero-or-pos, ⊎_elim}
-use Rattle.std.specs.FinMap.{empty, get}
+use Rattle.std.proofs.Common.{mul_comm, ◌≡◌, ◌≢◌, false, cond, Option, Some, None, ℕ, zero, suc, ◌*◌, ◌<◌, ◌≤◌, ◌^◌, List, [], ◌∷◌, length, map, get_or, All, refl, sym, ap, ◌∙◌, subst, arith}
+use Rattle.std.specs.FinMap.{empty}
 use Rattle.fj_coeff.specs.Field.{Field, IsField, power}
 use Rattle.fj_theory.specs.Exponents.{IsExponents, plus, times}
 use Rattle.fj_theory.specs.Parts.{Part, IsParts, part_at}
-use Rattle.fj_theory.specs.Plain.{polynomial}
 use Rattle.fj_theory.specs.PointIdeal.{UsesFirst}
 use Rattle.fj_theory.specs.Polynomial.{Polynomial, IsPolynomial, coefficient}
 use Rattle.std.proofs.Math.Nat.{le-mul_of_pos_right}

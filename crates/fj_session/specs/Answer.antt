@@ -1,5 +1,5 @@
 -- The answer to a question, as data: each row of an answer to `parts` is a residue and the part at it.
-use Rattle.std.specs.Prelude.{◌≡◌, ◌≢◌, ℕ, ◌≤◌, ◌^◌, Bool, true, false, List, All, Some, length, map, slice_get, slice_index}
+use Rattle.std.specs.Prelude.{◌≡◌, ℕ, ◌≤◌, ◌^◌, Bool, true, false, List, All, Some, map, slice_get, slice_index}
 use Rattle.fj_coeff.specs.Field.{Field}
 use Rattle.fj_coeff.specs.PrimeField.{prime_field}
 use Rattle.fj_theory.specs.MonomialOrder.{elim_key, grevlex_key, grlex_key, lex_key}

@@ -1,4 +1,4 @@
-use Rattle.std.proofs.Common.{◌≡◌, ◌≤◌, ℕ, List, take}
+use Rattle.std.proofs.Common.{◌≡◌, ◌≤◌, List, take}
 use Rattle.std.specs.Io.KnownBytes.{Appends}
 use Rattle.fj_script.specs.declared.question.Asked.{Asked}
 use Rattle.fj_session.specs.declared.types.Answer.{Answer}
