@@ -1,3 +1,7 @@
+pub mod Primes
+pub mod Ends
+pub mod Ascii
+pub mod NewNames
 pub mod More
 pub mod AcceptedPrimes
 pub mod AcceptedYields
@@ -6,3 +10,4 @@ pub mod AcceptedExpressions
 pub mod AcceptedDeclarations
 pub mod AcceptedQuestions
 pub mod Accepted
+pub mod Ratios

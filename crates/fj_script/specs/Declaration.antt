@@ -59,8 +59,8 @@ unfoldable pub constant : ℕ → State → Answer ℕ
 constant p s = option_map_or (λ t. do
   n ← narrow t
   Ok ((p - n.0 % p) % p, n.1)) (after_sign minus s) (do
-  n ← narrow s
-  Ok (n.0 % p, n.1))
+    n ← narrow s
+    Ok (n.0 % p, n.1))
 
 -- A coordinate. A comma behind the last one that the ring takes is the fault.
 unfoldable pub coordinate : Session → List ℕ → State → Answer ℕ
@@ -72,4 +72,4 @@ point S s = do
   name ← name_equals S s
   cs ← enclosed (listed (coordinate S)) name.1
   if nat_lt (length cs.0) (length S.variables) then Err (fault_at kinds.Arity cs.1)
-  else at_end (declare S name.0 (Point cs.0) 0, cs.1)
+      else at_end (declare S name.0 (Point cs.0) 0, cs.1)

@@ -70,7 +70,7 @@ listed item s = do
 -- What stands in parentheses.
 unfoldable pub enclosed : {A : Type 0} → (State → Answer A) → State → Answer A
 enclosed inside s = do
-  open ← sign opening s
-  x ← inside open
-  close ← sign closing x.1
-  Ok (x.0, close)
+  opened ← sign opening s
+  x ← inside opened
+  closed ← sign closing x.1
+  Ok (x.0, closed)

@@ -37,8 +37,8 @@ unfoldable pub new_name : Session → State → Answer (List ℕ)
 new_name S s = do
   w ← word s
   if is_variable S w.0 || is_some (place_of (declared_names S.values) w.0) then Err (fault_at faults.Taken w.1)
-  else (if nat_le 4096 (length S.values) then Err (fault_at faults.Many w.1)
-  else Ok w)
+      else (if nat_le 4096 (length S.values) then Err (fault_at faults.Many w.1)
+      else Ok w)
 
 -- A declared name, where one is wanted.
 unfoldable pub declared_by : Session → Token → State → Answer (ℕ × Kind)

@@ -12,7 +12,7 @@ use Rattle.fj_script.specs.Items.{at_end, listed, number, word}
 use Rattle.fj_script.specs.Session.{Session, new_session}
 
 unfoldable pub is_prime : ℕ → Bool
-is_prime n = list_any (λ p. p == n) primes
+is_prime n = list_any (λ p. n == p) primes
 
 unfoldable pub prime : State → Answer ℕ
 prime s = do
@@ -24,8 +24,8 @@ unfoldable pub variable : List (List ℕ) → State → Answer (List ℕ)
 variable names s = do
   w ← word s
   if nat_le 7 (length names) then Err (fault_at kinds.Vars w.1)
-  else (if is_some (place_of names w.0) then Err (fault_at kinds.Taken w.1)
-  else Ok w)
+      else (if is_some (place_of names w.0) then Err (fault_at kinds.Taken w.1)
+      else Ok w)
 
 unfoldable pub ring : State → Result Session LineFault
 ring s = do

@@ -3,7 +3,7 @@ ghost use Rattle.std.specs.Prelude.{◌≡◌};
 ghost use Rattle.fj_script.specs.Question.{ask_of, is_above_zero};
 
 /// The word that names a question.
-#[derive(Clone, Copy, Debug)]
+#[derive(Clone, Copy)]
 pub(crate) enum Ask {
     Parts,
     Member,
@@ -19,14 +19,14 @@ pub(crate) enum Ask {
 }
 
 /// The questions on one ideal.
-#[derive(Clone, Copy, Debug)]
+#[derive(Clone, Copy)]
 pub(crate) enum OneIdeal {
     Basis,
     Split,
 }
 
 /// The questions on two ideals.
-#[derive(Clone, Copy, Debug)]
+#[derive(Clone, Copy)]
 pub(crate) enum TwoIdeals {
     Same,
     Sum,
@@ -36,14 +36,14 @@ pub(crate) enum TwoIdeals {
 }
 
 /// The questions on a Frobenius power or root.
-#[derive(Clone, Copy, Debug)]
+#[derive(Clone, Copy)]
 pub(crate) enum Frobenius {
     Power,
     Root,
 }
 
 /// The questions on a test ideal.
-#[derive(Clone, Copy, Debug)]
+#[derive(Clone, Copy)]
 pub(crate) enum TestIdeal {
     Test,
     Left,

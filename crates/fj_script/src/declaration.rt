@@ -115,7 +115,7 @@ fn counted(
 }
 
 /// What stands behind the word `poly`.
-#[tactic(auto, unfolding(crate::specs::Declaration::poly))]
+#[tactic(auto, using(crate::proofs::Ends::ends, crate::proofs::Ends::goes_on), unfolding(crate::specs::Declaration::poly))]
 pub(crate) fn poly(
     alloc: Global,
     session: &mut Session,
@@ -176,7 +176,7 @@ fn generators(
 }
 
 /// What stands behind the word `ideal`.
-#[tactic(auto, unfolding(crate::specs::Declaration::ideal, crate::specs::Items::enclosed))]
+#[tactic(auto, using(crate::proofs::Ends::ends, crate::proofs::Ends::goes_on), unfolding(crate::specs::Declaration::ideal, crate::specs::Items::enclosed))]
 pub(crate) fn ideal(
     alloc: Global,
     session: &mut Session,
@@ -211,11 +211,7 @@ fn constant(p: u64, reader: &mut Reader) -> Result<u64, LineFault>
 
 /// A coordinate, behind these.
 #[tactic(auto, unfolding(crate::specs::Declaration::coordinate))]
-fn coordinate(
-    session: &Session,
-    coordinates: &[u64],
-    reader: &mut Reader,
-) -> Result<u64, LineFault>
+fn coordinate(session: &Session, coordinates: &[u64], reader: &mut Reader) -> Result<u64, LineFault>
     ensures gives { Gives (λ c. c) result reader.new (coordinate session.now coordinates.now reader.old) }
     ensures taken { OnOk result (length reader.new.left < length reader.old.left) }
 {
@@ -244,7 +240,7 @@ fn coordinates(
 }
 
 /// What stands behind the word `point`.
-#[tactic(auto, unfolding(crate::specs::Declaration::point, crate::specs::Items::enclosed))]
+#[tactic(auto, using(crate::proofs::Ends::ends, crate::proofs::Ends::goes_on), unfolding(crate::specs::Declaration::point, crate::specs::Items::enclosed))]
 pub(crate) fn point(
     alloc: Global,
     session: &mut Session,

@@ -61,14 +61,14 @@ pub enum ScriptFault {
 }
 
 /// The first fault of a line. The column is that of a byte, from 0.
-#[derive(Clone, Copy, Debug, PartialEq, Eq)]
+#[derive(Clone, Copy)]
 pub(crate) struct LineFault {
     pub(crate) kind: FaultKind,
     pub(crate) column: usize,
 }
 
 /// Why a line was not read.
-#[derive(Clone, Copy, Debug, PartialEq, Eq)]
+#[derive(Clone, Copy)]
 pub(crate) enum LineRefusal {
     At(LineFault),
     Memory,
@@ -132,7 +132,7 @@ pub(crate) fn fault_at(kind: FaultKind, reader: &Reader) -> LineFault
 {
     LineFault {
         kind,
-        column: reader.fault(Cause::Syntax).place,
+        column: reader.start(),
     }
 }
 

@@ -1,10 +1,11 @@
 //! What statements are made of: words, numbers, signs and the end of the line.
-ghost use Rattle.std.specs.Prelude.{◌≡◌, ◌<◌, ◌≤◌, ◌^◌, length, IfOk, OnOk};
+ghost use Rattle.std.specs.Prelude.{◌≡◌, ◌<◌, ◌^◌, length, IfOk, OnOk};
 ghost use Rattle.fj_text.specs.Seen.{seen};
+ghost use Rattle.fj_text.specs.Token.{HasWord};
 ghost use Rattle.fj_text.specs.Word.{IsWord};
-ghost use Rattle.fj_script.specs.Items.{at_end, narrow, number, number_of, sign, word, word_of};
+ghost use Rattle.fj_script.specs.Items.{narrow, number, number_of, sign, word, word_of};
 ghost use Rattle.fj_script.specs.Seen.{Gives};
-ghost use Rattle.fj_script.specs.Taken.{GivesEnd, GivesSign};
+ghost use Rattle.fj_script.specs.Taken.{GivesSign, IsEnd};
 
 use super::fault::{FaultKind, LineFault, fault_at, not_here};
 use fj_text::{Reader, Token};
@@ -15,7 +16,9 @@ const WIDE: u64 = 1 << 32;
 /// The word that this token is.
 #[tactic(auto, unfolding(crate::specs::Items::word_of))]
 pub(crate) fn word_of<'a>(token: Token<'a>, reader: &Reader) -> Result<&'a [u8], LineFault>
+    requires { HasWord (seen token) }
     ensures gives { Gives (λ w. w.now) result reader.now (word_of (seen token.entry) reader.now) }
+    ensures word { IfOk result (λ w. IsWord w.now) }
 {
     match token {
         Token::Word(word) => Ok(word),
@@ -42,6 +45,7 @@ fn number_of(token: Token, reader: &Reader) -> Result<u64, LineFault>
 #[tactic(auto, unfolding(crate::specs::Items::word))]
 pub(crate) fn word<'a>(reader: &mut Reader<'a>) -> Result<&'a [u8], LineFault>
     ensures gives { Gives (λ w. w.now) result reader.new (word reader.old) }
+    ensures word { IfOk result (λ w. IsWord w.now) }
     ensures taken { OnOk result (length reader.new.left < length reader.old.left) }
 {
     let Some(token) = reader.take() else {
@@ -90,8 +94,9 @@ pub(crate) fn sign(b: u8, reader: &mut Reader) -> Result<(), LineFault>
 }
 
 /// The line has to end here.
+#[tactic(auto, unfolding(crate::specs::Items::at_end))]
 pub(crate) fn at_end(reader: &mut Reader) -> Result<(), LineFault>
-    ensures gives { GivesEnd result reader.old }
+    ensures { IsEnd result reader.old }
 {
     let fault = not_here(reader);
     match reader.take() {

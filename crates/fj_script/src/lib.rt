@@ -1,5 +1,5 @@
 //! Sessions: their declarations and questions, or the first place where they are wrong.
-#![tactic(none)]
+#![tactic(auto)]
 
 mod ask;
 mod declaration;

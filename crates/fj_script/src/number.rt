@@ -1,5 +1,5 @@
 //! The numbers of questions, and their limits.
-ghost use Rattle.std.specs.Prelude.{◌≡◌, ◌<◌, ◌≤◌, ◌^◌, Contains, IfOk};
+ghost use Rattle.std.specs.Prelude.{◌≡◌, ◌<◌, ◌≤◌, ◌^◌, nat_lt, Contains, IfOk};
 ghost use Rattle.fj_coeff.specs.Field.{primes};
 ghost use Rattle.fj_script.specs.Numbers.{exponent, level, ratio, ratio_of, within};
 ghost use Rattle.fj_script.specs.Seen.{Gives};

@@ -91,7 +91,7 @@ impl AskedList {
 }
 
 /// The second name of `threshold`.
-#[derive(Clone, Copy, Debug)]
+#[derive(Clone, Copy)]
 enum Target {
     Ideal(u32),
     Point(u32),
@@ -117,11 +117,7 @@ fn member(session: &Session, reader: &mut Reader) -> Result<Question, LineFault>
 
 /// A question on one ideal.
 #[tactic(auto, unfolding(crate::specs::Question::of_ideal))]
-fn of_ideal(
-    which: OneIdeal,
-    session: &Session,
-    reader: &mut Reader,
-) -> Result<Question, LineFault>
+fn of_ideal(which: OneIdeal, session: &Session, reader: &mut Reader) -> Result<Question, LineFault>
     ensures { Gives (λ q. q) result reader.new (of_ideal which session.now reader.old) }
 {
     let j = session.ideal(reader)?;

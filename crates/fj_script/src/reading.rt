@@ -2,6 +2,7 @@
 ghost use Rattle.std.specs.Prelude.{◌≡◌, ◌+◌, ◌<◌, ◌≤◌, length, IfSome};
 ghost use Rattle.fj_script.specs.Script.{from_line, lines, script};
 ghost use Rattle.fj_script.specs.Seen.{Holds, IsReadingOf};
+ghost use Rattle.fj_script.specs.declared.fault.ScriptFault.TheVariants.{At};
 ghost use Rattle.fj_script.specs.Lines.{IsFirstOf, MakesAll, MakesIn};
 
 use super::fault::{Fault, FaultKind, LineRefusal, ScriptFault};
@@ -56,13 +57,13 @@ fn all_lines(alloc: Global, bytes: &[u8]) -> Result<Option<Session>, ScriptFault
     ensures { MakesAll result (from_line 1 None (lines bytes.now)) }
 {
     let mut session = None;
-    let mut number: u32 = 1;
-    let (mut next, mut rest) = split_line(bytes);
-    session = numbered_line(alloc, number, session, next)?;
-    'lines: while let Some(bytes) = rest {
-        (next, rest) = split_line(bytes);
+    let mut number: u32 = 0;
+    let mut left = Some(bytes);
+    'lines: while let Some(bytes) = left {
+        let (first, rest) = split_line(bytes);
         number += 1;
-        session = numbered_line(alloc, number, session, next)?;
+        session = numbered_line(alloc, number, session, first)?;
+        left = rest;
     }
     Ok(session)
 }

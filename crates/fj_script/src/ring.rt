@@ -1,5 +1,5 @@
 //! The ring of a session.
-ghost use Rattle.std.specs.Prelude.{◌≡◌, ◌<◌, ◌≤◌, length, map, Contains, IfOk, OnOk};
+ghost use Rattle.std.specs.Prelude.{◌≡◌, ◌<◌, ◌↔◌, length, map, Contains, IsTrue, IfOk, OnOk, None, is_some};
 ghost use Rattle.fj_coeff.specs.Field.{primes};
 ghost use Rattle.fj_text.specs.Word.{AreNames, IsWord, place_of};
 ghost use Rattle.fj_script.specs.Items.{listed};
@@ -19,11 +19,11 @@ const PRIMES: [u64; 6] = [2, 3, 5, 7, 11, 13];
 const MAX_VARIABLES: usize = 7;
 
 /// Whether a number is a prime that a ring may have.
-#[tactic(auto, unfolding(crate::specs::Ring::is_prime))]
 fn is_prime(n: u64) -> bool
-    ensures { result ≡ is_prime n }
+    ensures prime { IsTrue result ↔ Contains primes n }
+    ensures value { result ≡ is_prime n }
 {
-    PRIMES.iter().any(|p| *p == n)
+    PRIMES.contains(&n)
 }
 
 /// The prime that has to be next.
@@ -40,10 +40,15 @@ fn prime(reader: &mut Reader) -> Result<u64, LineFault>
 }
 
 /// Whether a word is among names.
-fn is_among(names: &[&str], word: &[u8]) -> bool
+fn is_among(names: &[&str], word: &str) -> bool
     ensures { result ≡ is_some (place_of (map (λ name. name.now) names.now) word.now) }
 {
-    names.iter().any(|name| name.as_bytes() == word)
+    for name in names {
+        if *name == word {
+            return true;
+        }
+    }
+    false
 }
 
 /// The variable that has to be next, behind these.
@@ -55,14 +60,14 @@ fn variable<'a>(names: &[&str], reader: &mut Reader<'a>) -> Result<&'a str, Line
     ensures new { IfOk result (λ w. place_of (map (λ name. name.now) names.now) w.now ≡ None) }
     ensures few { OnOk result (length names.now < 7) }
 {
-    let word = word(reader)?;
+    let word = str::from_utf8(word(reader)?).unwrap();
     if names.len() >= MAX_VARIABLES {
         return Err(fault_at(FaultKind::Vars, reader));
     }
     if is_among(names, word) {
         return Err(fault_at(FaultKind::Taken, reader));
     }
-    Ok(str::from_utf8(word).unwrap())
+    Ok(word)
 }
 
 /// The variables, with a comma between each two.
@@ -80,7 +85,11 @@ fn variables<'a>(alloc: Global, reader: &mut Reader<'a>) -> Result<Names, LineRe
 }
 
 /// What stands behind the word `ring`.
-#[tactic(auto, unfolding(crate::specs::Ring::ring))]
+#[tactic(
+    auto,
+    using(crate::proofs::Ends::ends, crate::proofs::Ends::goes_on),
+    unfolding(crate::specs::Ring::ring)
+)]
 pub(crate) fn ring(alloc: Global, reader: &mut Reader) -> Result<Session, LineRefusal>
     ensures { Makes (λ S. S) result (ring reader.old) }
 {

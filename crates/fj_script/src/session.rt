@@ -2,6 +2,7 @@
 ghost use Rattle.std.specs.Prelude.{◌≡◌, ◌+◌, ◌<◌, ◌≤◌, ◌++◌, ◌∷◌, [], length, Contains, OnOk, IfOk};
 ghost use Rattle.fj_coeff.specs.Field.{primes};
 ghost use Rattle.fj_text.specs.Seen.{seen};
+ghost use Rattle.fj_text.specs.Token.{HasWord};
 ghost use Rattle.fj_text.specs.Word.{IsWord, place_of};
 ghost use Rattle.fj_script.specs.Names.{declared, declared_as, declared_by, declared_names, ideal, is_variable, nonconstant, point_by, polynomial};
 ghost use Rattle.fj_script.specs.Seen.{Gives, seen as value_seen};
@@ -92,6 +93,7 @@ impl Session {
     /// A declared name, where this token is one.
     #[tactic(auto, unfolding(crate::specs::Names::declared_by))]
     fn declared_by(&self, token: Token, reader: &Reader) -> Result<(u32, Kind), LineFault>
+        requires { HasWord (seen token) }
         ensures { Gives (λ v. v) result reader.now (declared_by self.now (seen token.entry) reader.now) }
     {
         let word = word_of(token, reader)?;
@@ -163,6 +165,7 @@ impl Session {
     /// The point, where this token is its name.
     #[tactic(auto, unfolding(crate::specs::Names::point_by))]
     pub(crate) fn point_by(&self, token: Token, reader: &Reader) -> Result<u32, LineFault>
+        requires { HasWord (seen token) }
         ensures { Gives (λ v. v) result reader.now (point_by self.now (seen token.entry) reader.now) }
     {
         let (place, kind) = self.declared_by(token, reader)?;

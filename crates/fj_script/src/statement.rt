@@ -22,7 +22,7 @@ const MAX_ASKED: usize = 4096;
 const MAX_BUDGET: u64 = 10000000;
 
 /// The words that begin statements.
-#[derive(Clone, Copy, Debug)]
+#[derive(Clone, Copy)]
 enum Keyword {
     Ring,
     Order,
@@ -63,7 +63,7 @@ fn order_of(word: &[u8]) -> Option<OrderName>
 }
 
 /// What stands behind the word `order`.
-#[tactic(auto, unfolding(crate::specs::Statement::order))]
+#[tactic(auto, using(crate::proofs::Ends::ends, crate::proofs::Ends::goes_on), unfolding(crate::specs::Statement::order))]
 fn order(session: &mut Session, reader: &mut Reader) -> Result<(), LineRefusal>
     ensures { Makes (λ _. session.new) result (order session.old reader.old) }
 {
@@ -77,7 +77,7 @@ fn order(session: &mut Session, reader: &mut Reader) -> Result<(), LineRefusal>
 }
 
 /// What stands behind the word `budget`.
-#[tactic(auto, unfolding(crate::specs::Statement::budget))]
+#[tactic(auto, using(crate::proofs::Ends::ends, crate::proofs::Ends::goes_on), unfolding(crate::specs::Statement::budget))]
 fn budget(session: &mut Session, reader: &mut Reader) -> Result<(), LineRefusal>
     ensures { Makes (λ _. session.new) result (budget session.old reader.old) }
 {
@@ -88,7 +88,7 @@ fn budget(session: &mut Session, reader: &mut Reader) -> Result<(), LineRefusal>
 }
 
 /// What stands behind the word `ask`.
-#[tactic(auto, unfolding(crate::specs::Statement::asking))]
+#[tactic(auto, using(crate::proofs::Ends::ends, crate::proofs::Ends::goes_on), unfolding(crate::specs::Statement::asking))]
 fn asking(session: &mut Session, reader: &mut Reader) -> Result<(), LineRefusal>
     ensures { Makes (λ _. session.new) result (asking session.old reader.old) }
 {

@@ -1,10 +1,11 @@
 //! What declared names stand for.
-ghost use Rattle.std.specs.Prelude.{◌≡◌, ◌+◌, ◌<◌, ◌≤◌, ◌++◌, ◌∷◌, [], ℕ, length, map, slice_get, OnOk, Some, IfSome};
+ghost use Rattle.std.specs.Prelude.{◌≡◌, ◌+◌, ◌<◌, ◌≤◌, ◌++◌, ◌∷◌, [], ℕ, nat_lt, length, map, slice_get, OnOk, None, Some, IfSome};
 ghost use Rattle.std.specs.Option.{option_map};
+ghost use Rattle.fj_theory.specs.Exponents.{total};
 ghost use Rattle.fj_text.specs.Word.{IsWord, place_of};
 ghost use Rattle.fj_script.specs.Names.{declared_names};
 ghost use Rattle.fj_script.specs.Session.{is_nonconstant, kind};
-ghost use Rattle.fj_script.specs.Seen.{seen};
+ghost use Rattle.fj_script.specs.Seen.{seen, seen_values};
 
 use fj_plain::{PlainList, PlainPoint, PlainPoly, PlainTerm};
 use indexmap::IndexMap;
@@ -25,7 +26,7 @@ pub enum Value {
 }
 
 /// The kinds of values, as places tell them apart.
-#[derive(Clone, Copy, Debug, PartialEq, Eq)]
+#[derive(Clone, Copy)]
 pub(crate) enum Kind {
     Constant,
     Nonconstant,
@@ -80,9 +81,9 @@ pub struct ValueList {
 impl Model for ValueList {
     ghost use Rattle.std.specs.Prelude.{List, ℕ, ◌≤◌, length, map, All};
     ghost use Rattle.fj_text.specs.Word.{IsWord};
-    ghost use Rattle.fj_script.specs.declared.value.Value.{Value};
+    ghost use Rattle.fj_script.specs.declared.value.Value as held;
 
-    ghost Value = { List (List ℕ × Value) };
+    ghost Value = { List (List ℕ × held.Value) };
 
     ghost view = { λ l. map (λ e. (e.0.items, e.1)) l.entries.entries };
 

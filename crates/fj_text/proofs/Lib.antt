@@ -1,4 +1,5 @@
 pub mod Numbers
+pub mod Words
 pub mod Tokens
 pub mod Places
 pub mod Joined
@@ -14,3 +15,6 @@ pub mod Readers
 pub mod Values
 pub mod Repeats
 pub mod Parentheses
+pub mod Grammars
+pub mod Soundness
+pub mod Completeness

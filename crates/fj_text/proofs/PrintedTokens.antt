@@ -11,6 +11,7 @@ use Rattle.std.proofs.lemmas.Str.Parse.{digit_from_value}
 use Rattle.std.proofs.lemmas.List.{length-append}
 use Rattle.std.proofs.lemmas.List.Elements.{All-nil, All-cons, All-head, All-tail}
 use Rattle.fj_text.specs.Word.{is_word_start, is_word_byte, IsWord}
+use Rattle.fj_text.proofs.Words.{start_is_byte}
 use Rattle.fj_text.specs.Token.{Token, Word, Number, Sign, Placed, is_blank, number_shown, token_at, tokens_from}
 
 -- A token and its length.
@@ -138,13 +139,6 @@ solid test b h blank tab return =
         | inr e ↦ elim e [ inl e ↦ true≢false (sym h ∙ ap test e ∙ tab) | inr e ↦ true≢false (sym h ∙ ap test e ∙ return) ]
       ])
     ]
-
-or_more : (d a c u : Bool) → ((a || c) || u) ≡ true → (((d || a) || c) || u) ≡ true
-or_more true a c u h = refl
-or_more false a c u h = h
-
-start_is_byte : (b : ℕ) → is_word_start b ≡ true → is_word_byte b ≡ true
-start_is_byte b h = or_more (is_in_range 48 57 b) (is_in_range 65 90 b) (is_in_range 97 122 b) (eqb b 95) h
 
 none_first : (d a c u : Bool) → (((d || a) || c) || u) ≡ false → d ≡ false
 none_first true a c u h = absurd cc

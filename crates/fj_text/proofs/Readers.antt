@@ -1,12 +1,11 @@
 -- The reading of a line: its next token, and what is left behind it.
-use Rattle.std.proofs.Common.{◌≡◌, ℕ, zero, ◌<◌, Bool, true, false, cond, List, [], ◌∷◌, length, drop, Option, Some, None, MatchOption, refl, sym, ap, ◌∙◌, arith}
+use Rattle.std.proofs.Common.{◌≡◌, ℕ, zero, ◌<◌, Bool, true, false, cond, List, length, drop, Option, Some, None, MatchOption, refl, sym, ap, ◌∙◌, arith}
 use Rattle.std.specs.Option.{OnSome, option_and_then, option_map_or}
 use Rattle.fj_text.specs.declared.token.Token as code
 use Rattle.fj_text.specs.declared.token.Placed as held
 use Rattle.fj_text.specs.declared.fault.Cause.{Cause}
 use Rattle.fj_text.specs.declared.fault.Cause.TheVariants as causes
-use Rattle.fj_text.specs.declared.fault.Fault.{Fault}
-use Rattle.fj_text.specs.Seen.{left_from, placed, seen}
+use Rattle.fj_text.specs.Seen.{left_from, seen}
 use Rattle.fj_text.specs.State.{State, after_sign, blame, end_of, is_bad, is_bad_next, is_the_sign, next, state_at, state_from, unexpected}
 use Rattle.fj_text.specs.Token.{Token, Placed, tokens_from}
 

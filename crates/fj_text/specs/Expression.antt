@@ -6,7 +6,7 @@
 --   atom   = number | word | "(" expr ")"
 --
 -- Each rule answers a value and the state after it, or the first fault. A rule takes as many tokens as it can.
-use Rattle.std.specs.Prelude.{◌≡◌, ℕ, zero, suc, ◌%◌, ◌^◌, ◌==◌, Bool, ◌||◌, if◌then◌else◌, nat_le, nat_lt, List, [], ◌∷◌, length, unwrap_or, Result, Ok, Err, Some, None}
+use Rattle.std.specs.Prelude.{ℕ, zero, suc, ◌%◌, ◌^◌, ◌==◌, Bool, ◌||◌, if◌then◌else◌, nat_le, nat_lt, List, length, unwrap_or, Result, Ok, Err, Some, None}
 use Rattle.std.specs.declared.option.Option.{Option}
 use Rattle.std.specs.FinMap.{len}
 use Rattle.std.specs.Option.{option_map, option_map_or, option_and_then}

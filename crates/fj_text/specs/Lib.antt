@@ -7,3 +7,4 @@ pub mod Expression
 pub mod Reading
 pub mod Variable
 pub mod PrintedLaws
+pub mod Grammar

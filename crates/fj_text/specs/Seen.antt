@@ -1,5 +1,5 @@
 -- The tokens of the code, as the definitions see them.
-use Rattle.std.specs.Prelude.{◌≡◌, ℕ, zero, List, [], ◌∷◌, drop, Some, None}
+use Rattle.std.specs.Prelude.{ℕ, zero, List, [], ◌∷◌, drop, Some, None}
 use Rattle.std.specs.declared.option.Option.{Option}
 use Rattle.fj_text.specs.declared.token.Token as code
 use Rattle.fj_text.specs.declared.token.Token.TheVariants as tokens

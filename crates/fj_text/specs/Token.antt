@@ -1,11 +1,11 @@
 -- The tokens of a line.
-use Rattle.std.specs.Prelude.{◌≡◌, ℕ, zero, suc, ◌+◌, ◌-◌, ◌^◌, ◌==◌, Bool, ◌||◌, if◌then◌else◌, List, [], ◌∷◌, length, take, min, Some, None, codes}
+use Rattle.std.specs.Prelude.{ℕ, zero, suc, ◌+◌, ◌-◌, ◌^◌, ◌==◌, Bool, ◌||◌, if◌then◌else◌, List, [], ◌∷◌, take, min, Some, None, codes}
 use Rattle.std.specs.declared.option.Option.{Option}
 use Rattle.std.specs.Char.{is_ascii_digit}
 use Rattle.std.specs.List.{prefix_len, list_any}
 use Rattle.std.specs.Option.{option_map_or}
 use Rattle.std.specs.Str.Parse.{digits_value}
-use Rattle.fj_text.specs.Word.{is_word_start, is_word_byte}
+use Rattle.fj_text.specs.Word.{is_word_start, is_word_byte, IsWord}
 
 -- A number shows its value, or 2^32 where it is above 2^32 - 1. A sign is its byte.
 pub data Token : Type 0 where
@@ -13,6 +13,13 @@ pub data Token : Type 0 where
   Number : ℕ → Token
   Sign : ℕ → Token
   BadByte : Token
+
+-- Where the token is a word, its bytes are one.
+abbrev pub HasWord : Token → Type 0
+HasWord (Word w) = IsWord w
+HasWord (Number n) = Unit {0}
+HasWord (Sign b) = Unit {0}
+HasWord BadByte = Unit {0}
 
 -- A token, the column of its first byte and the column behind its last byte. Columns count from 0.
 pub record Placed : Type 0 where

@@ -1,5 +1,5 @@
 -- The places of variables.
-use Rattle.std.specs.Prelude.{ℕ, ◌<◌}
+use Rattle.std.specs.Prelude.{◌<◌}
 use Rattle.fj_text.specs.declared.scope.Meaning.{Meaning}
 use Rattle.fj_text.specs.declared.scope.Meaning.TheVariants.{Variable, OtherKind, Unknown}
 

@@ -47,8 +47,8 @@ impl Names {
         self.words.len()
     }
 
-    /// The name at place i.
-    pub(crate) fn word(&self, i: usize) -> &[u8]
+    /// The name at place i, counted from 0.
+    pub fn word(&self, i: usize) -> &[u8]
         requires { i < length self.now }
         ensures { slice_get self.now i ≡ Some result.now }
     {
@@ -56,7 +56,7 @@ impl Names {
     }
 
     /// The place of a word among the names, counted from 0; `None` where it is none of them.
-    pub(crate) fn place(&self, word: &[u8]) -> Option<usize>
+    pub fn place(&self, word: &[u8]) -> Option<usize>
         ensures place { result ≡ place_of self.now word.now }
         ensures within { IfSome result (λ i. i < 7) }
     {

@@ -1,7 +1,8 @@
 //! The reading of a line, token by token.
-ghost use Rattle.std.specs.Prelude.{◌≡◌, ◌<◌, ◌≤◌, length, IfNone, OnSome, MatchOption, None, Some};
+ghost use Rattle.std.specs.Prelude.{◌≡◌, ◌<◌, ◌≤◌, length, IfNone, IfSome, OnSome, MatchOption, None, Some};
 ghost use Rattle.std.specs.Bool.{OnTrue, OnFalse};
 ghost use Rattle.fj_text.specs.Seen.{seen};
+ghost use Rattle.fj_text.specs.Token.{HasWord};
 ghost use Rattle.fj_text.specs.State.{after_sign, blame, fault_at, is_bad, is_bad_next, is_the_sign, next, state_at, unexpected};
 
 use super::fault::{Cause, Fault};
@@ -19,14 +20,15 @@ pub struct Reader<'a> {
 
 impl<'a> Model for Reader<'a> {
     ghost use Rattle.std.specs.Prelude.{◌≤◌, length, IfSome};
-    ghost use Rattle.fj_text.specs.Seen.{left_from};
+    ghost use Rattle.fj_text.specs.Seen.{left_from, seen};
     ghost use Rattle.fj_text.specs.State.{State};
+    ghost use Rattle.fj_text.specs.Token.{HasWord};
 
     ghost Value = { State };
 
     ghost view = { λ r. record { left = left_from r.next r.line.now; start = r.start; end = r.end } };
 
-    ghost invariant = { λ r. IfSome r.next (λ t. t.end ≤ length r.line.now) };
+    ghost invariant = { λ r. IfSome r.next (λ t. (t.end ≤ length r.line.now) × HasWord (seen t.token)) };
 }
 
 // What is wrong with a token that may not stand where it stands.
@@ -87,6 +89,7 @@ impl<'a> Reader<'a> {
         ensures taken { MatchOption result (next self.old ≡ None) (λ t. next self.old ≡ Some (seen t, self.new)) }
         ensures stays { IfNone result (self.new ≡ self.old) }
         ensures fewer { OnSome result (length self.new.left < length self.old.left) }
+        ensures word { IfSome result (λ t. HasWord (seen t)) }
     {
         let t = self.next?;
         self.next = token_from(self.line, t.end);
@@ -145,6 +148,13 @@ impl<'a> Reader<'a> {
             cause,
             place: self.start,
         }
+    }
+
+    /// The column of the token that was taken last.
+    pub fn start(&self) -> usize
+        ensures { result ≡ self.now.start }
+    {
+        self.start
     }
 
     /// The column behind the token that was taken last.

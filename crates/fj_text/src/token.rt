@@ -4,7 +4,7 @@ ghost use Rattle.std.specs.List.{list_all, prefix_len};
 ghost use Rattle.std.specs.Option.{option_map};
 ghost use Rattle.std.specs.Char.{is_ascii_digit};
 ghost use Rattle.fj_text.specs.Word.{is_word_start, is_word_byte};
-ghost use Rattle.fj_text.specs.Token.{is_blank, is_sign, number_shown, token_at, tokens_from};
+ghost use Rattle.fj_text.specs.Token.{HasWord, is_blank, is_sign, number_shown, token_at, tokens_from};
 ghost use Rattle.fj_text.specs.State.{end_of};
 ghost use Rattle.fj_text.specs.Seen.{left_from, seen};
 
@@ -100,6 +100,7 @@ fn number_shown(digits: &[u8]) -> u64
 #[tactic(auto, unfolding(crate::specs::Token::token_at))]
 fn token_at(bytes: &[u8]) -> Option<(Token<'_>, usize)>
     ensures token { option_map (λ t. (seen t.0, t.1)) result ≡ token_at bytes.now }
+    ensures word { IfSome result (λ t. HasWord (seen t.0)) }
     ensures some { IfSome result (λ t. 0 < t.1) }
     ensures within { IfSome result (λ t. t.1 ≤ length bytes.now) }
 {
@@ -123,6 +124,7 @@ fn token_at(bytes: &[u8]) -> Option<(Token<'_>, usize)>
 pub(crate) fn token_from(line: &[u8], column: usize) -> Option<Placed<'_>>
     requires { column ≤ length line.now }
     ensures tokens { left_from result line.now ≡ tokens_from zero column (drop column line.now) }
+    ensures word { IfSome result (λ t. HasWord (seen t.token)) }
     ensures within { IfSome result (λ t. t.end ≤ length line.now) }
 {
     let start = column + blank_len(&line[column..]);

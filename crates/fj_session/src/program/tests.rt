@@ -10,7 +10,9 @@ const GO: &[&str] = &["run"];
 
 /// Two questions.
 const SESSION_A: &[u8] = b"ring 3 x, y\npoly f = 2*x^4*y+x*y+y^3\nask parts 1 f\nask parts 0 f\n";
+
 const FIRST_A: &[u8] = b"1: part (0,0) = y\n1: part (1,1) = 2*x+1\n";
+
 const OUTPUT_A: &[u8] =
     b"1: part (0,0) = y\n1: part (1,1) = 2*x+1\n2: part (0,0) = 2*x^4*y+y^3+x*y\n";
 
@@ -161,10 +163,7 @@ fn tells_the_first_fault(rt: HostRuntime) -> Result<(), Fail> {
     let rows: [(&[u8], &[u8]); 15] = [
         (b"ring 4 x\n", b"fault Prime at 1:6\n"),
         (b"ring 2 x, x\n", b"fault Taken at 1:11\n"),
-        (
-            b"ring 2 a, b, c, d, e, f, g, h\n",
-            b"fault Vars at 1:29\n",
-        ),
+        (b"ring 2 a, b, c, d, e, f, g, h\n", b"fault Vars at 1:29\n"),
         (b"poly f = x\n", b"fault NoRing at 1:1\n"),
         (b"ring 2 x\npoly f = y\n", b"fault Unknown at 2:10\n"),
         (b"ring 2 x\npoly f = x&x\n", b"fault Byte at 2:11\n"),
@@ -182,10 +181,7 @@ fn tells_the_first_fault(rt: HostRuntime) -> Result<(), Fail> {
             b"ring 2 x\nideal J = (x)\nask test J 1\n",
             b"fault Kind at 3:10\n",
         ),
-        (
-            b"ring 2 x, y\npoint P = (1)\n",
-            b"fault Arity at 2:13\n",
-        ),
+        (b"ring 2 x, y\npoint P = (1)\n", b"fault Arity at 2:13\n"),
         (
             b"ring 2 x\nideal J = (x,x,x,x,x,x,x,x,x,x,x,x,x,x,x,x,x,x,x,x,x,x,x,x,x,x,x,x,x,x,x,x,x,x,x,x,x,x,x,x,x,x,x,x,x,x,x,x,x,x,x,x,x,x,x,x,x,x,x,x,x,x,x,x,x)\n",
             b"fault Many at 2:139\n",

@@ -1,11 +1,8 @@
-use Rattle.std.proofs.Common.{List, ℕ, sym, ap, ◌∙◌, arith}
+use Rattle.std.proofs.Common.{ap, ◌∙◌, arith}
 use Rattle.std.proofs.lemmas.Result.{err_from_is_err_and}
-use Rattle.fj_coeff.specs.Field.{Field}
-use Rattle.fj_theory.specs.Polynomial.{Polynomial}
 use Rattle.fj_text.specs.declared.fault.Fault.{Fault}
 use Rattle.fj_text.specs.declared.fault.ReadFault.TheVariants.{At}
-use Rattle.fj_text.specs.declared.scope.Meaning.{Meaning}
-use Rattle.fj_text.specs.Expression.{Answer, parenthesised, plus_term, sum_at, term_at, times_factor}
+use Rattle.fj_text.specs.Expression.{parenthesised, plus_term, times_factor}
 use Rattle.fj_text.specs.State.{unexpected}
 use Rattle.fj_text.proofs.Parentheses.{closed, parenthesised-more, parenthesised-zero, closes, not_closed, plus_term-left, reads-fault, reads-passed, reads-same, times_factor-left}
 use Rattle.fj_text.proofs.Repeats.{of_some, reads-refused, reads-stopped, repeat-more, turn-none, turn-some}

@@ -1,4 +1,4 @@
-use Rattle.std.proofs.Common.{ℕ, ◌+◌, ◌*◌, ◌<◌, length}
+use Rattle.std.proofs.Common.{◌+◌, ◌*◌, ◌<◌, length}
 use Rattle.fj_text.specs.Expression.{parenthesised, plus_term, sum_at, term_at, times_factor}
 use Rattle.fj_text.proofs.Repeats.{Repeats}
 use Rattle.fj_text.proofs.expression.+expression.Given as goal

@@ -1,4 +1,4 @@
-use Rattle.std.proofs.Common.{ap, refl, ◌∙◌, arith}
+use Rattle.std.proofs.Common.{ap, refl, ◌∙◌}
 use Rattle.fj_text.specs.Seen.{left_from}
 use Rattle.fj_text.proofs.Tokens.{no_token, a_token}
 use Rattle.fj_text.proofs.token.token_from.Goals as goal

@@ -1,4 +1,3 @@
-use Rattle.std.proofs.Common.{refl, rules}
 use Rattle.fj_text.proofs.Readers.{next-none, next-some, fewer}
 use Rattle.fj_text.proofs.reader.Reader.take.Goals as goal
 
