@@ -3,3 +3,4 @@ pub mod Known
 pub mod Residues
 pub mod Pieces
 pub mod Variables
+pub mod ReadBytes

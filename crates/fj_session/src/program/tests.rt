@@ -34,13 +34,13 @@ fn answers_sessions(rt: HostRuntime) -> Result<(), Fail> {
             b"1: none\n",
         ),
         (GO, b"ring 2 x", 0, b""),
-        // Over 3^12-th powers each term is a part.
         (
             GO,
             b"ring 2 x, y\npoly f = x^5+x^4*y^3+1\nask parts 2 f\n",
             0,
             b"1: part (0,0) = 1\n1: part (0,3) = x\n1: part (1,0) = x\n",
         ),
+        // Over 3^12-th powers each term is a part.
         (
             GO,
             b"ring 3 x, y\npoly f = 2*x^4*y+x*y+y^3\nask parts 12 f\n",

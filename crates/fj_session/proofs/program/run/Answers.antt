@@ -1,12 +1,13 @@
-use Rattle.std.proofs.Common.{◌≡◌, ◌≤◌, ◌⊎◌, ◌++◌, ◌∷◌, [], take, Err, refl, inl, inr, arith, sym, ◌∙◌, subst, append-nil}
+use Rattle.std.proofs.Common.{◌++◌, ◌∷◌, [], take, Err, refl, inl, inr, arith, sym, ◌∙◌, subst, append-nil}
 use Rattle.std.proofs.lemmas.Bool.{true≢false}
 use Rattle.std.proofs.lemmas.List.{map_push}
-use Rattle.std.specs.Io.KnownBytes.{Appends, IsAtEnd}
+use Rattle.std.specs.Io.KnownBytes.{Appends}
 use Rattle.fj_script.specs.Script as session
 use Rattle.fj_script.specs.Seen.{IsReadingOf}
-use Rattle.fj_session.specs.Program.{AreAnswered, IsRead, pieces_of, usage_line}
+use Rattle.fj_session.specs.Program.{AreAnswered, pieces_of, usage_line}
 use Rattle.fj_session.specs.Text.{answer_bytes, fault_line}
 use Rattle.fj_session.proofs.Pieces.{appends_nothing, length_push}
+use Rattle.fj_session.proofs.ReadBytes.{is_read}
 use Rattle.fj_session.proofs.program.run.Goals as goal
 
 pub returns-then-not-are_run-clause-whole : goal.returns-then-not-are_run-clause-whole
@@ -32,12 +33,7 @@ returns-in-Ok-read_script-clause-write_failed g c five =
     let script = c.in-Ok-read_script.script in
     let answered = failed.1.0 in
     let last = failed.1.1 in
-    let read = c.in-Ok.ensures in
-    let bytes : IsRead (g.S.Source.left c.args.source.now) (g.S.Source.left c.read_session.new.source) c.in-Ok.bytes.items = record {
-      taken = read.taken;
-      short = subst (λ n. n ≤ 1048577) c.in-Ok.bytes.ok.0 read.short;
-      whole = subst (λ n. IsAtEnd (g.S.Source.left c.read_session.new.source) ⊎ (n ≡ 1048577)) c.in-Ok.bytes.ok.0 read.whole;
-    } in (
+    let read = is_read c.in-Ok.bytes.items c.deref.result.now c.in-Ok.bytes.ok.0 c.deref.ensures.value c.in-Ok.ensures.taken c.in-Ok.ensures.short c.in-Ok.ensures.whole in (
       failed.0,
       (
         pieces_of script.env answered,
@@ -46,7 +42,7 @@ returns-in-Ok-read_script-clause-write_failed g c five =
           c.are_run.ensures.0 c.if-not-are_run.false,
           (
             c.deref.result.now,
-            subst (IsRead (g.S.Source.left c.args.source.now) (g.S.Source.left c.read_session.new.source)) (sym c.deref.ensures.value) bytes,
+            read,
             inr (
               script,
               c.in-Ok-read_script.ensures,
@@ -66,13 +62,8 @@ pub returns-in-Ok-read_script-clause-memory : goal.returns-in-Ok-read_script-cla
 returns-in-Ok-read_script-clause-memory g c six =
     let wanting = c.answer_all.ensures.memory six in
     let script = c.in-Ok-read_script.script in
-    let read = c.in-Ok.ensures in
     let run = c.are_run.ensures.0 c.if-not-are_run.false in
-    let bytes : IsRead (g.S.Source.left c.args.source.now) (g.S.Source.left c.read_session.new.source) c.in-Ok.bytes.items = record {
-      taken = read.taken;
-      short = subst (λ n. n ≤ 1048577) c.in-Ok.bytes.ok.0 read.short;
-      whole = subst (λ n. IsAtEnd (g.S.Source.left c.read_session.new.source) ⊎ (n ≡ 1048577)) c.in-Ok.bytes.ok.0 read.whole;
-    } in (
+    let read = is_read c.in-Ok.bytes.items c.deref.result.now c.in-Ok.bytes.ok.0 c.deref.ensures.value c.in-Ok.ensures.taken c.in-Ok.ensures.short c.in-Ok.ensures.whole in (
       run,
       inr (
         pieces_of script.env wanting.0,
@@ -80,7 +71,7 @@ returns-in-Ok-read_script-clause-memory g c six =
           run,
           (
             c.deref.result.now,
-            subst (IsRead (g.S.Source.left c.args.source.now) (g.S.Source.left c.read_session.new.source)) (sym c.deref.ensures.value) bytes,
+            read,
             inr (script, c.in-Ok-read_script.ensures, (wanting.0, wanting.1, refl)),
           ),
         ),
@@ -92,18 +83,13 @@ pub returns-in-Err-At-clause-whole : goal.returns-in-Err-At-clause-whole
 returns-in-Err-At-clause-whole g c small =
     let written = c.write_fault.ensures.written small in
     let fault = c.in-Err-At.fault in
-    let read = c.in-Ok.ensures in
-    let bytes : IsRead (g.S.Source.left c.args.source.now) (g.S.Source.left c.read_session.new.source) c.in-Ok.bytes.items = record {
-      taken = read.taken;
-      short = subst (λ n. n ≤ 1048577) c.in-Ok.bytes.ok.0 read.short;
-      whole = subst (λ n. IsAtEnd (g.S.Source.left c.read_session.new.source) ⊎ (n ≡ 1048577)) c.in-Ok.bytes.ok.0 read.whole;
-    } in (
+    let read = is_read c.in-Ok.bytes.items c.deref.result.now c.in-Ok.bytes.ok.0 c.deref.ensures.value c.in-Ok.ensures.taken c.in-Ok.ensures.short c.in-Ok.ensures.whole in (
       fault_line fault ∷ [],
       inr (
         c.are_run.ensures.0 c.if-not-are_run.false,
         (
           c.deref.result.now,
-          subst (IsRead (g.S.Source.left c.args.source.now) (g.S.Source.left c.read_session.new.source)) (sym c.deref.ensures.value) bytes,
+          read,
           inl (fault, subst (λ e. IsReadingOf (session.script c.deref.result.now) (Err e)) c.in-Err-At.field-0-is c.in-Err-At.ensures, written.0, refl),
         ),
       ),
@@ -114,12 +100,7 @@ pub returns-in-Err-At-clause-write_failed : goal.returns-in-Err-At-clause-write_
 returns-in-Err-At-clause-write_failed g c five =
     let failed = c.write_fault.ensures.failed five in
     let fault = c.in-Err-At.fault in
-    let read = c.in-Ok.ensures in
-    let bytes : IsRead (g.S.Source.left c.args.source.now) (g.S.Source.left c.read_session.new.source) c.in-Ok.bytes.items = record {
-      taken = read.taken;
-      short = subst (λ n. n ≤ 1048577) c.in-Ok.bytes.ok.0 read.short;
-      whole = subst (λ n. IsAtEnd (g.S.Source.left c.read_session.new.source) ⊎ (n ≡ 1048577)) c.in-Ok.bytes.ok.0 read.whole;
-    } in (
+    let read = is_read c.in-Ok.bytes.items c.deref.result.now c.in-Ok.bytes.ok.0 c.deref.ensures.value c.in-Ok.ensures.taken c.in-Ok.ensures.short c.in-Ok.ensures.whole in (
       failed.1,
       (
         [],
@@ -128,7 +109,7 @@ returns-in-Err-At-clause-write_failed g c five =
           c.are_run.ensures.0 c.if-not-are_run.false,
           (
             c.deref.result.now,
-            subst (IsRead (g.S.Source.left c.args.source.now) (g.S.Source.left c.read_session.new.source)) (sym c.deref.ensures.value) bytes,
+            read,
             inl (fault, subst (λ e. IsReadingOf (session.script c.deref.result.now) (Err e)) c.in-Err-At.field-0-is c.in-Err-At.ensures, refl),
           ),
         ),
