@@ -2,6 +2,8 @@ pub mod Primes
 pub mod Ends
 pub mod Ascii
 pub mod NewNames
+pub mod LineByLine
+pub mod Scripts
 pub mod More
 pub mod AcceptedPrimes
 pub mod AcceptedYields
@@ -11,3 +13,6 @@ pub mod AcceptedDeclarations
 pub mod AcceptedQuestions
 pub mod Accepted
 pub mod Ratios
+pub mod Values
+pub mod Names
+pub mod FirstLine

@@ -37,6 +37,7 @@ greatest_up_to m n g (suc d) gcd positive within = by (m % suc d == 0 && n % suc
         let first : m % suc d ≡ 0 = mod-eq-zero_of_dvd (suc d) (rw e gcd.0) in
         let second : n % suc d ≡ 0 = mod-eq-zero_of_dvd (suc d) (rw e gcd.1) in
         rw (first, second) refl
+
     by : (b : Bool) → (m % suc d == 0 && n % suc d == 0) ≡ b → (g ≤ d → divisor_up_to m n d ≡ g) → (if b then suc d else divisor_up_to m n d) ≡ g
     by true e rest =
         let both = and_parts (m % suc d == 0) (n % suc d == 0) e in
@@ -60,13 +61,14 @@ reduced m n positive =
     let g = gcd_exists (suc n) m n (omega arith) in
     let above : 0 < g.0 = gcd_positive m n g.0 positive g.1 in
     let parts = divided m n g.0 positive g.1 in
-    let same : divisor_up_to m n n ≡ g.0 = greatest_up_to m n g.0 n g.1 above (le_of_dvd positive g.1.1) in
-    (record { numerator = m / g.0; denominator = n / g.0; positive = parts.positive },
-        record {
-          is = ap (λ k. fraction (m / k) (n / k)) same ∙ fraction_is (m / g.0) (n / g.0) parts.positive;
-          form = record { value = parts.value; lowest = parts.lowest };
-          below = div-le_self m g.0;
-        })
+    let same : divisor_up_to m n n ≡ g.0 = greatest_up_to m n g.0 n g.1 above (le_of_dvd positive g.1.1) in (
+      record { numerator = m / g.0; denominator = n / g.0; positive = parts.positive },
+      record {
+        is = ap (λ k. fraction (m / k) (n / k)) same ∙ fraction_is (m / g.0) (n / g.0) parts.positive;
+        form = record { value = parts.value; lowest = parts.lowest };
+        below = div-le_self m g.0;
+      },
+    )
 
 reduced_is : (m n : ℕ) (t : Fraction) → 0 < n → IsLowestForm m n t → Reduced m n t
 reduced_is m n t positive form =

@@ -124,14 +124,14 @@ pub(crate) fn poly(
     ensures { Makes (λ _. session.new) result (poly session.old reader.old) }
 {
     let name = name_equals(session, reader)?;
-    let value = counted(alloc, session, session.terms, reader)?;
+    let value = counted(alloc, session, session.terms(), reader)?;
     at_end(reader)?;
     let terms = value.len();
     session.declare(alloc, name, Value::Poly(value), terms)?;
     Ok(())
 }
 
-/// A generator, behind these many, which have so many terms.
+/// A generator, behind these, where so many terms are declared before it.
 #[tactic(auto, unfolding(crate::specs::Declaration::generator))]
 fn generator(
     alloc: Global,
@@ -140,16 +140,16 @@ fn generator(
     terms: usize,
     reader: &mut Reader,
 ) -> Result<PlainPoly, LineRefusal>
-    requires limit { session.now.terms + terms ≤ 1000000 }
-    requires counted { terms ≡ terms_in (terms_of generators.now) }
+    requires limit { terms ≤ 1000000 }
+    requires counted { terms ≡ session.now.terms + terms_in (terms_of generators.now) }
     ensures reads { Reads (λ h. h.terms) result reader.new (generator session.now (terms_of generators.now) reader.old) }
     ensures taken { OnOk result (length reader.new.left < length reader.old.left) }
-    ensures few { IfOk result (λ h. session.now.terms + terms + length h.terms ≤ 1000000) }
+    ensures few { IfOk result (λ h. terms + length h.terms ≤ 1000000) }
 {
     if generators.len() >= MAX_GENERATORS {
         return Err(fault_at(FaultKind::Many, reader).into());
     }
-    counted(alloc, session, session.terms + terms, reader)
+    counted(alloc, session, terms, reader)
 }
 
 /// Generators with a comma between each two, and how many terms they have.
@@ -163,16 +163,17 @@ fn generators(
     ensures count { IfOk result (λ fs. fs.1 ≡ terms_in (terms_of fs.0.items)) }
     ensures few { IfOk result (λ fs. session.now.terms + fs.1 ≤ 1000000) }
 {
+    let declared = session.terms();
     let mut generators = Vec::new(alloc);
-    let first = generator(alloc, session, &generators, 0, reader)?;
-    let mut terms = first.len();
+    let first = generator(alloc, session, &generators, declared, reader)?;
+    let mut terms = declared + first.len();
     generators.push(first)?;
     'generators: while reader.take_sign(b',') {
         let next = generator(alloc, session, &generators, terms, reader)?;
         terms += next.len();
         generators.push(next)?;
     }
-    Ok((generators, terms))
+    Ok((generators, terms - declared))
 }
 
 /// What stands behind the word `ideal`.

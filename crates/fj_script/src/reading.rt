@@ -59,8 +59,8 @@ fn all_lines(alloc: Global, bytes: &[u8]) -> Result<Option<Session>, ScriptFault
     let mut session = None;
     let mut number: u32 = 0;
     let mut left = Some(bytes);
-    'lines: while let Some(bytes) = left {
-        let (first, rest) = split_line(bytes);
+    'lines: while let Some(text) = left {
+        let (first, rest) = split_line(text);
         number += 1;
         session = numbered_line(alloc, number, session, first)?;
         left = rest;

@@ -70,6 +70,14 @@ impl Session {
         self.prime
     }
 
+    /// The terms of all declared polynomials and generators.
+    pub(crate) fn terms(&self) -> usize
+        ensures value { result ≡ self.now.terms }
+        ensures limit { result ≤ 1000000 }
+    {
+        self.terms
+    }
+
     /// Whether a word is a variable.
     pub(crate) fn is_variable(&self, word: &[u8]) -> bool
         ensures { result ≡ is_variable self.now word.now }

@@ -9,8 +9,9 @@ use Rattle.fj_script.proofs.declaration.generators.Given as goal
 abbrev pub invariant-generators : goal.invariant-generators
 invariant-generators l = record {
   goes : GoesOn (generator l.session) (terms_of l.generators.items) l.reader (listed (generator l.session) l.fn.reader);
-  counted : l.terms ≡ terms_in (terms_of l.generators.items);
-  few : l.session.terms + l.terms ≤ 1000000
+  counted : l.terms ≡ l.session.terms + terms_in (terms_of l.generators.items);
+  few : l.terms ≤ 1000000;
+  declared : l.declared ≡ l.session.terms
 }
 
 abbrev pub decreases-generators : goal.decreases-generators
