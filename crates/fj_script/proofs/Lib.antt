@@ -5,6 +5,13 @@ pub mod NewNames
 pub mod LineByLine
 pub mod Scripts
 pub mod More
+pub mod AcceptedPrimes
+pub mod AcceptedYields
+pub mod AcceptedPolynomials
+pub mod AcceptedExpressions
+pub mod AcceptedDeclarations
+pub mod AcceptedQuestions
+pub mod Accepted
 pub mod Ratios
 pub mod Values
 pub mod Names

@@ -1,6 +1,4 @@
-pub mod Form
-pub mod Held
-pub mod Reading
-pub mod Program
-pub mod Text
 pub mod Answer
+pub mod Asked
+pub mod Text
+pub mod Program

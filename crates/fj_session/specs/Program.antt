@@ -1,11 +1,19 @@
 -- What `fjcalc` writes and how it ends, over the words of the command line and the bytes that the source gave.
-use Rattle.std.specs.Prelude.{◌≡◌, ◌≢◌, ◌≤◌, ◌⊎◌, ℕ, List, [], ◌∷◌, length, map, codes}
+use Rattle.std.specs.Prelude.{◌≡◌, ◌≢◌, ◌≤◌, ◌⊎◌, ℕ, if◌then◌else◌, List, [], ◌∷◌, All, Err, length, map, take, codes}
 use Rattle.std.specs.Borrow.{Bor}
-use Rattle.std.specs.Io.KnownBytes.{Consumes, IsAtEnd}
+use Rattle.std.specs.Io.KnownBytes.{Appends, Consumes, IsAtEnd}
+use Rattle.std.specs.List.{flat_map, list_any}
 use Rattle.std.specs.declared.option.Option.{Option}
-use Rattle.fj_coeff.specs.PrimeField.{prime_field}
-use Rattle.fj_session.specs.Answer.{IsPartsText}
-use Rattle.fj_session.specs.Form.{FormText, IsForm, spelling, terms_of}
+use Rattle.fj_io.specs.Outside.{AppendsFront}
+use Rattle.fj_script.specs.declared.fault.Fault.{Fault}
+use Rattle.fj_script.specs.declared.question.Asked.{Asked}
+use Rattle.fj_script.specs.declared.script.Env.{Env}
+use Rattle.fj_script.specs.declared.script.Script.{Script}
+use Rattle.fj_script.specs.Script as session
+use Rattle.fj_session.specs.Answer.{IsAnswer, is_later}
+use Rattle.fj_session.specs.Asked.{IsScriptOf}
+use Rattle.fj_session.specs.Text.{answer_bytes, fault_line}
+use Rattle.fj_session.specs.declared.types.Answer.{Answer}
 
 -- The texts of the words.
 abbrev pub texts_of : List (Bor (List ℕ)) → List (List ℕ)
@@ -18,32 +26,53 @@ AreRun words = words ≡ codes "run" ∷ []
 abbrev pub usage_line : List ℕ
 usage_line = codes "usage: fjcalc run\n"
 
-abbrev pub fault_line : List ℕ
-fault_line = codes "fault Form at 1:1\n"
-
 -- The bytes that the source gave: all to its end, or the first 1,048,577, which are too many.
 pub record IsRead (before after : Option (List ℕ)) (bytes : List ℕ) : Type 0 where
   pub taken : Consumes before after bytes
   pub short : length bytes ≤ 1048577
   pub whole : IsAtEnd after ⊎ (length bytes ≡ 1048577)
 
--- The bytes are the text of a form, and the output is the text of its parts.
-pub record IsAnswered (bytes output : List ℕ) : Type 0 where
-  pub text : FormText
-  pub form : IsForm text
-  pub spelled : bytes ≡ spelling text
-  pub answered : IsPartsText (prime_field text.prime) text.e text.variables (terms_of text) output
+-- Questions, each with its answer.
+pub record AreAnswered (env : Env) (asked : List Asked) (answered : List (Asked × Answer)) : Type 0 where
+  pub questions : map (λ a. a.0) answered ≡ asked
+  pub answers : All (λ a. IsAnswer env a.0 a.1) answered
 
--- The bytes are the text of no form.
-abbrev pub IsNoForm : List ℕ → Type 0
-IsNoForm bytes = (text : FormText) → IsForm text → bytes ≢ spelling text
+-- The text of each answer. Each is handed to the sink as one piece.
+abbrev pub pieces_of : Env → List (Asked × Answer) → List (List ℕ)
+pieces_of env answered = map (λ a. answer_bytes env.vars a.0.number a.1) answered
 
--- The status and the output of a session of these bytes.
-abbrev pub IsOutcome : List ℕ → ℕ → List ℕ → Type 0
-IsOutcome bytes status output = (status ≡ 0) × IsAnswered bytes output ⊎ (status ≡ 2) × IsNoForm bytes × (output ≡ fault_line)
+-- 3 where an answer is left for later, else 0.
+abbrev pub status_of : List (Asked × Answer) → ℕ
+status_of answered = if list_any (λ a. is_later a.1) answered then 3 else 0
 
--- The status and the output of a run that nothing outside ends, over its words and what the source had before and after.
-abbrev pub IsRun : List (List ℕ) → Option (List ℕ) → Option (List ℕ) → ℕ → List ℕ → Type 0
-IsRun words before after status output =
-    (words ≢ codes "run" ∷ []) × (status ≡ 1) × (output ≡ usage_line)
-    ⊎ AreRun words × ((bytes : List ℕ) × IsRead before after bytes × IsOutcome bytes status output)
+-- The pieces, one after the other.
+abbrev pub together : List (List ℕ) → List ℕ
+together pieces = flat_map (λ piece. piece) pieces
+
+-- The status and the pieces of a session of these bytes: the line of its fault, or the texts of its answers in order.
+abbrev pub IsOutcome : List ℕ → ℕ → List (List ℕ) → Type 0
+IsOutcome bytes status pieces =
+    ((fault : Fault) × (session.script bytes ≡ Err fault) × (status ≡ 2) × (pieces ≡ fault_line fault ∷ []))
+    ⊎ ((script : Script) × IsScriptOf bytes script × ((answered : List (Asked × Answer)) × AreAnswered script.env script.asked answered × (status ≡ status_of answered) × (pieces ≡ pieces_of script.env answered)))
+
+-- The first pieces of a session: the line of its fault, or the texts of the answers to its first questions.
+abbrev pub AreFirst : List ℕ → List (List ℕ) → Type 0
+AreFirst bytes pieces =
+    ((fault : Fault) × (session.script bytes ≡ Err fault) × (pieces ≡ fault_line fault ∷ []))
+    ⊎ ((script : Script) × IsScriptOf bytes script × ((answered : List (Asked × Answer)) × AreAnswered script.env (take (length answered) script.asked) answered × (pieces ≡ pieces_of script.env answered)))
+
+-- The status and the pieces of a run that nothing outside ends, over its words and what the source had before and after.
+abbrev pub IsRun : List (List ℕ) → Option (List ℕ) → Option (List ℕ) → ℕ → List (List ℕ) → Type 0
+IsRun words before after status pieces =
+    (words ≢ codes "run" ∷ []) × (status ≡ 1) × (pieces ≡ usage_line ∷ [])
+    ⊎ AreRun words × ((bytes : List ℕ) × IsRead before after bytes × IsOutcome bytes status pieces)
+
+-- The first pieces of a run.
+abbrev pub AreFirstOfRun : List (List ℕ) → Option (List ℕ) → Option (List ℕ) → List (List ℕ) → Type 0
+AreFirstOfRun words before after pieces =
+    (words ≢ codes "run" ∷ []) × (pieces ≡ usage_line ∷ [])
+    ⊎ AreRun words × ((bytes : List ℕ) × IsRead before after bytes × AreFirst bytes pieces)
+
+-- Known bytes grow by whole pieces and a front of the next one.
+abbrev pub AppendsCut : Option (List ℕ) → Option (List ℕ) → List (List ℕ) → List ℕ → Type 0
+AppendsCut old new whole next = (middle : Option (List ℕ)) × Appends old middle (together whole) × AppendsFront middle new next

@@ -1,27 +1,49 @@
--- The printed text of terms and residues.
-use Rattle.std.specs.Prelude.{ℕ, ◌==◌, if◌then◌else◌, List, [], ◌∷◌, ◌++◌, map, codes, decimal}
-use Rattle.fj_session.specs.Form.{joined}
+-- The printed texts of answers and faults, as bytes.
+use Rattle.std.specs.Prelude.{ℕ, List, [], ◌∷◌, ◌++◌, length, map, take, codes, decimal}
+use Rattle.std.specs.List.{flat_map}
+use Rattle.fj_text.specs.Printed.{joined, polynomial_bytes}
+use Rattle.fj_script.specs.declared.fault.Fault.{Fault}
+use Rattle.fj_script.specs.declared.fault.FaultKind.{FaultKind}
+use Rattle.fj_script.specs.declared.fault.FaultKind.TheVariants as kinds
+use Rattle.fj_session.specs.declared.types.Answer.{Answer}
+use Rattle.fj_session.specs.declared.types.Answer.TheVariants.{Parts, Later}
+use Rattle.fj_session.specs.declared.types.PartRow.{PartRow}
 
--- a variable with its exponent, which is left out where it is 1
-abbrev pub power_bytes : List ℕ → ℕ → List ℕ
-power_bytes name exponent = if exponent == 1 then name else name ++ codes "^" ++ decimal exponent
-
--- the powers of the variables whose exponents aren't 0, in order
-abbrev pub powers_bytes : List (List ℕ) → List ℕ → List (List ℕ)
-powers_bytes [] exponents = []
-powers_bytes (name ∷ names) [] = []
-powers_bytes (name ∷ names) (exponent ∷ exponents) =
-    if exponent == 0 then powers_bytes names exponents else power_bytes name exponent ∷ powers_bytes names exponents
-
--- the coefficient, which is left out where it is 1 before powers
-abbrev pub coefficient_bytes : ℕ → List (List ℕ) → List (List ℕ)
-coefficient_bytes rank [] = decimal rank ∷ []
-coefficient_bytes rank (power ∷ powers) = if rank == 1 then power ∷ powers else decimal rank ∷ power ∷ powers
-
--- a term: its coefficient and its powers
-unfoldable pub term_bytes : List (List ℕ) → ℕ → List ℕ → List ℕ
-term_bytes names rank exponents = joined (codes "*") (coefficient_bytes rank (powers_bytes names exponents))
-
--- a residue: a number for each variable
+-- A residue: a number for each variable.
 unfoldable pub residue_bytes : List ℕ → List ℕ
 residue_bytes exponents = codes "(" ++ joined (codes ",") (map decimal exponents) ++ codes ")"
+
+-- The line of a row, in the answer to the question with this number. The variables have these names.
+unfoldable pub row_line : List (List ℕ) → ℕ → PartRow → List ℕ
+row_line names number row =
+    decimal number ++ codes ": part " ++ residue_bytes (take (length names) row.residue.exponents) ++ codes " = " ++ polynomial_bytes names row.poly ++ codes "\n"
+
+abbrev pub rows_bytes : List (List ℕ) → ℕ → List PartRow → List ℕ
+rows_bytes names number [] = decimal number ++ codes ": none\n"
+rows_bytes names number (row ∷ rows) = flat_map (row_line names number) (row ∷ rows)
+
+-- The text of an answer.
+abbrev pub answer_bytes : List (List ℕ) → ℕ → Answer → List ℕ
+answer_bytes names number (Parts rows) = rows_bytes names number rows
+answer_bytes names number Later = decimal number ++ codes ": later\n"
+
+abbrev pub kind_bytes : FaultKind → List ℕ
+kind_bytes kinds.Long = codes "Long"
+kind_bytes kinds.Byte = codes "Byte"
+kind_bytes kinds.Syntax = codes "Syntax"
+kind_bytes kinds.NoRing = codes "NoRing"
+kind_bytes kinds.Prime = codes "Prime"
+kind_bytes kinds.Vars = codes "Vars"
+kind_bytes kinds.Taken = codes "Taken"
+kind_bytes kinds.Unknown = codes "Unknown"
+kind_bytes kinds.Kind = codes "Kind"
+kind_bytes kinds.Wide = codes "Wide"
+kind_bytes kinds.Large = codes "Large"
+kind_bytes kinds.Constant = codes "Constant"
+kind_bytes kinds.Arity = codes "Arity"
+kind_bytes kinds.Many = codes "Many"
+kind_bytes kinds.Range = codes "Range"
+
+-- The line of a fault: `fault KIND at LINE:COLUMN`.
+unfoldable pub fault_line : Fault → List ℕ
+fault_line fault = codes "fault " ++ kind_bytes fault.kind ++ codes " at " ++ decimal fault.line ++ codes ":" ++ decimal fault.column ++ codes "\n"

@@ -1,14 +1,12 @@
 //! Sessions: what is read, what is answered, and what is written.
 #![tactic(auto)]
 
-mod answer;
-mod form;
+mod answering;
 mod input;
+mod printing;
 mod program;
-mod scan;
-mod sum;
-mod term;
-mod text;
+pub mod types;
 
-pub use form::one_reading;
+pub use answering::answer;
+pub use printing::print_answer;
 pub use program::run;

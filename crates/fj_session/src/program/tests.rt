@@ -3,107 +3,150 @@ use crate::program::run;
 use fj_io::{MemorySink, MemorySource};
 use std::test::Fail;
 
+/// The words, the session, the status and the output.
+type Row = (&'static [&'static str], &'static [u8], u8, &'static [u8]);
+
+const GO: &[&str] = &["run"];
+
+/// Two questions.
+const SESSION_A: &[u8] = b"ring 3 x, y\npoly f = 2*x^4*y+x*y+y^3\nask parts 1 f\nask parts 0 f\n";
+
+const FIRST_A: &[u8] = b"1: part (0,0) = y\n1: part (1,1) = 2*x+1\n";
+
+const OUTPUT_A: &[u8] =
+    b"1: part (0,0) = y\n1: part (1,1) = 2*x+1\n2: part (0,0) = 2*x^4*y+y^3+x*y\n";
+
 #[test]
 fn answers_sessions(rt: HostRuntime) -> Result<(), Fail> {
     let alloc = rt.alloc();
-    let go: &[&str] = &["run"];
-    let rows: [(&[&str], &[u8], u8, &[u8]); 19] = [
+    let rows: [Row; 26] = [
+        (GO, SESSION_A, 0, OUTPUT_A),
         (
-            go,
-            b"ring 3 x, y\npoly f = 2*x^4*y+x*y+y^3\nask parts 1 f\n",
-            0,
-            b"1: part (0,0) = y\n1: part (1,1) = 2*x+1\n",
-        ),
-        (
-            go,
+            GO,
             b"ring 3 x, y\npoly f = 2*x^4*y\nask parts 1 f\n",
             0,
             b"1: part (1,1) = 2*x\n",
         ),
         (
-            go,
-            b"ring 2 x\npoly z = x+x\nask parts 1 z\n",
+            GO,
+            b"ring 2 x\npoly z = x-x\nask parts 1 z\n",
             0,
             b"1: none\n",
         ),
-        // Over 3^0-th powers the one part is the polynomial; over 3^12-th powers each term is a part.
+        (GO, b"ring 2 x", 0, b""),
         (
-            go,
-            b"ring 3 x, y\npoly f = 2*x^4*y+x*y+y^3\nask parts 0 f\n",
-            0,
-            b"1: part (0,0) = 2*x^4*y+y^3+x*y\n",
-        ),
-        (
-            go,
+            GO,
             b"ring 2 x, y\npoly f = x^5+x^4*y^3+1\nask parts 2 f\n",
             0,
             b"1: part (0,0) = 1\n1: part (0,3) = x\n1: part (1,0) = x\n",
         ),
+        // Over 3^12-th powers each term is a part.
         (
-            go,
+            GO,
             b"ring 3 x, y\npoly f = 2*x^4*y+x*y+y^3\nask parts 12 f\n",
             0,
             b"1: part (0,3) = 1\n1: part (1,1) = 1\n1: part (4,1) = 2\n",
         ),
         // Each prime, and one to seven variables.
         (
-            go,
+            GO,
             b"ring 2 x\npoly f = x^3+1\nask parts 1 f\n",
             0,
             b"1: part (0) = 1\n1: part (1) = x\n",
         ),
         (
-            go,
+            GO,
             b"ring 5 x, y, z\npoly f = 7*x^6*y^2*z\nask parts 1 f\n",
             0,
             b"1: part (1,2,1) = 2*x\n",
         ),
         (
-            go,
+            GO,
             b"ring 7 a, b, c, d\npoly f = a^7*b+d^13+6\nask parts 1 f\n",
             0,
             b"1: part (0,0,0,0) = 6\n1: part (0,0,0,6) = d\n1: part (0,1,0,0) = a\n",
         ),
         (
-            go,
+            GO,
             b"ring 11 x1, x2, x3, x4, x5\npoly f = 10*x1^10+x5^22*x1^10\nask parts 1 f\n",
             0,
             b"1: part (10,0,0,0,0) = x5^2+10\n",
         ),
         (
-            go,
+            GO,
             b"ring 13 u, v, w, x, y, z\npoly f = 14*z^14+12*z^14\nask parts 1 f\n",
             0,
             b"1: none\n",
         ),
         (
-            go,
+            GO,
             b"ring 13 a, b, c, d, e, f, g\npoly h = 15*a^13*g^27\nask parts 1 h\n",
             0,
             b"1: part (0,0,0,0,0,0,1) = 2*a*g^2\n",
         ),
-        (go, b"", 2, b"fault Form at 1:1\n"),
+        // The printing order of the questions that follow: at equal totals and below them.
         (
-            go,
-            b"ring 2 x\r\npoly z = x\r\nask parts 1 z\r\n",
-            2,
-            b"fault Form at 1:1\n",
+            GO,
+            b"ring 3 x, y\npoly f = x*y+y^3\norder lex\nask parts 0 f\n",
+            0,
+            b"1: part (0,0) = x*y+y^3\n",
         ),
         (
-            go,
+            GO,
+            b"ring 2 x, y, z\npoly f = x*z+y^2+x\nask parts 0 f\norder grlex\nask parts 0 f\norder lex\nask parts 0 f\norder grevlex\nask parts 0 f\n",
+            0,
+            b"1: part (0,0,0) = y^2+x*z+x\n2: part (0,0,0) = x*z+y^2+x\n3: part (0,0,0) = x*z+x+y^2\n4: part (0,0,0) = y^2+x*z+x\n",
+        ),
+        // Blanks, comments, a minus sign and parentheses.
+        (
+            GO,
+            b"ring\t2 x,y # a plane\r\n\n poly f=(x+y)^2*x#\xff\n#\nask parts 1 f",
+            0,
+            b"1: part (1,0) = x+y\n",
+        ),
+        (
+            GO,
+            b"ring 5 x\npoly f = -x-1\nask parts 0 f\n",
+            0,
+            b"1: part (0) = 4*x+4\n",
+        ),
+        // Questions that are left for later.
+        (
+            GO,
+            b"ring 2 x\npoly f = x\nask test f 1\n",
+            3,
+            b"1: later\n",
+        ),
+        (
+            GO,
+            b"ring 2 x\npoly f = x\nideal J = (f, x)\n",
+            2,
+            b"fault Kind at 3:12\n",
+        ),
+        (
+            GO,
+            b"ring 2 x\npoly f = x\nideal J = (x)\npoint P = (0)\nask fpure J P\nask parts 0 f\nask nu 1 f J\n",
+            3,
+            b"1: later\n2: part (0) = x\n3: later\n",
+        ),
+        (GO, b"", 2, b"fault NoRing at 1:1\n"),
+        (
+            GO,
             b"ring 2 \xff\npoly z = 1\nask parts 1 z\n",
             2,
-            b"fault Form at 1:1\n",
+            b"fault Byte at 1:8\n",
         ),
+        // What stands before a fault isn't answered.
         (
-            go,
-            b"ring 2 x\npoly z = x\nask parts 1 z\n\n",
+            GO,
+            b"ring 2 x\npoly z = x\nask parts 1 z\nask parts 13 z\n",
             2,
-            b"fault Form at 1:1\n",
+            b"fault Range at 4:11\n",
         ),
         (&["go"], b"", 1, b"usage: fjcalc run\n"),
         (&[], b"", 1, b"usage: fjcalc run\n"),
         (&["run", "run"], b"", 1, b"usage: fjcalc run\n"),
+        (&["run", "audit"], b"", 1, b"usage: fjcalc run\n"),
     ];
     for (words, session, status, output) in rows {
         let mut source = MemorySource::new(alloc, session, 10, &[])?;
@@ -115,28 +158,80 @@ fn answers_sessions(rt: HostRuntime) -> Result<(), Fail> {
 }
 
 #[test]
-fn fails_as_the_outside_does(rt: HostRuntime) -> Result<(), Fail> {
+fn tells_the_first_fault(rt: HostRuntime) -> Result<(), Fail> {
     let alloc = rt.alloc();
-    let session: &[u8] = b"ring 3 x, y\npoly f = 2*x^4*y+x*y+y^3\nask parts 1 f\n";
-
-    // The reads that fail, the sink's room and the writes that fail.
-    let rows: [(&[u64], usize, &[u64], u8, &[u8]); 4] = [
-        (&[2], 100, &[], 4, b""),
-        (&[], 5, &[], 5, b"1: pa"),
-        (&[], 100, &[1], 5, b""),
+    let rows: [(&[u8], &[u8]); 15] = [
+        (b"ring 4 x\n", b"fault Prime at 1:6\n"),
+        (b"ring 2 x, x\n", b"fault Taken at 1:11\n"),
+        (b"ring 2 a, b, c, d, e, f, g, h\n", b"fault Vars at 1:29\n"),
+        (b"poly f = x\n", b"fault NoRing at 1:1\n"),
+        (b"ring 2 x\npoly f = y\n", b"fault Unknown at 2:10\n"),
+        (b"ring 2 x\npoly f = x&x\n", b"fault Byte at 2:11\n"),
+        (b"ring 2 x\npoly f = x^\n", b"fault Syntax at 2:12\n"),
+        (b"ring 2 x\npoly f = x^1001\n", b"fault Large at 2:12\n"),
         (
-            &[],
-            100,
-            &[2],
-            0,
-            b"1: part (0,0) = y\n1: part (1,1) = 2*x+1\n",
+            b"ring 2 x\npoly f = 4294967296*x\n",
+            b"fault Wide at 2:10\n",
+        ),
+        (
+            b"ring 2 x\npoly f = 1\nask test f 1\n",
+            b"fault Constant at 3:10\n",
+        ),
+        (
+            b"ring 2 x\nideal J = (x)\nask test J 1\n",
+            b"fault Kind at 3:10\n",
+        ),
+        (b"ring 2 x, y\npoint P = (1)\n", b"fault Arity at 2:13\n"),
+        (
+            b"ring 2 x\nideal J = (x,x,x,x,x,x,x,x,x,x,x,x,x,x,x,x,x,x,x,x,x,x,x,x,x,x,x,x,x,x,x,x,x,x,x,x,x,x,x,x,x,x,x,x,x,x,x,x,x,x,x,x,x,x,x,x,x,x,x,x,x,x,x,x,x)\n",
+            b"fault Many at 2:139\n",
+        ),
+        (
+            b"ring 2 x\npoly f = x\nask test f 9\n",
+            b"fault Range at 3:12\n",
+        ),
+        (
+            b"ring 2 x\npoly f = x\nask jumps f",
+            b"fault Syntax at 3:12\n",
         ),
     ];
-    for (reads, room, writes, status, output) in rows {
-        let mut source = MemorySource::new(alloc, session, 10, reads)?;
-        let mut sink = MemorySink::new(alloc, room, writes)?;
-        assert_eq!(rt; run(alloc, &["run"], &mut source, &mut sink), status);
+    for (session, output) in rows {
+        let mut source = MemorySource::new(alloc, session, 10, &[])?;
+        let mut sink = MemorySink::new(alloc, 1000, &[])?;
+        assert_eq!(rt; run(alloc, GO, &mut source, &mut sink), 2);
         assert_eq!(rt; sink.taken(), output);
+    }
+    Ok(())
+}
+
+// The session is read in eight calls, the last of which finds its end, and answered in two.
+#[test]
+fn fails_as_the_outside_does(rt: HostRuntime) -> Result<(), Fail> {
+    let alloc = rt.alloc();
+    for call in 1..10 {
+        let mut source = MemorySource::new(alloc, SESSION_A, 10, &[call])?;
+        let mut sink = MemorySink::new(alloc, 100, &[])?;
+        let status = run(alloc, GO, &mut source, &mut sink);
+        let is_read = call == 9;
+        assert_eq!(rt; status, if is_read { 0 } else { 4 });
+        assert_eq!(rt; sink.taken(), if is_read { OUTPUT_A } else { b"" });
+    }
+
+    let writes: [(u64, u8, &[u8]); 3] = [(1, 5, b""), (2, 5, FIRST_A), (3, 0, OUTPUT_A)];
+    for (call, wanted, output) in writes {
+        let mut source = MemorySource::new(alloc, SESSION_A, 10, &[])?;
+        let mut sink = MemorySink::new(alloc, 100, &[call])?;
+        assert_eq!(rt; run(alloc, GO, &mut source, &mut sink), wanted);
+        assert_eq!(rt; sink.taken(), output);
+    }
+
+    // However much room the sink has, it holds a front of the output.
+    for room in 0..OUTPUT_A.len() + 1 {
+        let mut source = MemorySource::new(alloc, SESSION_A, 10, &[])?;
+        let mut sink = MemorySink::new(alloc, room, &[])?;
+        let status = run(alloc, GO, &mut source, &mut sink);
+        assert_eq!(rt; status, if room < OUTPUT_A.len() { 5 } else { 0 });
+        assert_eq!(rt; sink.taken(), &OUTPUT_A[..room]);
     }
     Ok(())
 }
@@ -144,20 +239,16 @@ fn fails_as_the_outside_does(rt: HostRuntime) -> Result<(), Fail> {
 #[test]
 fn holds_to_its_limits(rt: HostRuntime) -> Result<(), Fail> {
     let alloc = rt.alloc();
-    for (terms, status) in [(1000, 0), (1001, 2)] {
-        let mut session = Vec::from_slice(alloc, b"ring 2 x\npoly f = 1")?;
-        for _ in 1..terms {
-            session.extend_from_slice(b"+x")?;
-        }
-        session.extend_from_slice(b"\nask parts 1 f\n")?;
-        let mut source = MemorySource::new(alloc, &session, 1000, &[])?;
+    let rows: [(usize, &[u8]); 2] = [
+        (1_048_576, b"fault NoRing at 1:1\n"),
+        (1_048_577, b"fault Long at 1:1\n"),
+    ];
+    for (len, output) in rows {
+        let session = vec![in alloc; b'#'; len]?;
+        let mut source = MemorySource::new(alloc, &session, 65536, &[])?;
         let mut sink = MemorySink::new(alloc, 1000, &[])?;
-        assert_eq!(rt; run(alloc, &["run"], &mut source, &mut sink), status);
+        assert_eq!(rt; run(alloc, GO, &mut source, &mut sink), 2);
+        assert_eq!(rt; sink.taken(), output);
     }
-
-    let long = vec![in alloc; b'#'; 1_048_577]?;
-    let mut source = MemorySource::new(alloc, &long, 65536, &[])?;
-    let mut sink = MemorySink::new(alloc, 1000, &[])?;
-    assert_eq!(rt; run(alloc, &["run"], &mut source, &mut sink), 2);
     Ok(())
 }

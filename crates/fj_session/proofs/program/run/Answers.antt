@@ -1,36 +1,118 @@
-use Rattle.std.proofs.Common.{◌≡◌, ◌≤◌, ◌⊎◌, codes, refl, inl, inr, arith, sym, ◌∙◌, subst}
+use Rattle.std.proofs.Common.{◌++◌, ◌∷◌, [], take, Err, refl, inl, inr, arith, sym, ◌∙◌, subst, append-nil}
 use Rattle.std.proofs.lemmas.Bool.{true≢false}
-use Rattle.std.specs.Io.KnownBytes.{IsAtEnd}
-use Rattle.fj_io.specs.Outside.{AppendsFront}
-use Rattle.fj_session.specs.Program.{IsOutcome}
+use Rattle.std.proofs.lemmas.List.{map_push}
+use Rattle.std.specs.Io.KnownBytes.{Appends}
+use Rattle.fj_script.specs.Script as session
+use Rattle.fj_script.specs.Seen.{IsReadingOf}
+use Rattle.fj_session.specs.Program.{AreAnswered, pieces_of, usage_line}
+use Rattle.fj_session.specs.Text.{answer_bytes, fault_line}
+use Rattle.fj_session.proofs.Pieces.{appends_nothing, length_push}
+use Rattle.fj_session.proofs.ReadBytes.{is_read}
 use Rattle.fj_session.proofs.program.run.Goals as goal
+
+pub returns-then-not-are_run-clause-whole : goal.returns-then-not-are_run-clause-whole
+returns-then-not-are_run-clause-whole g c small =
+    let written = c.write.ensures.written small in
+    (usage_line ∷ [], inl ((λ run. true≢false (sym (c.are_run.ensures.1 run) ∙ c.if-not-are_run.true)), written.0, refl), written.1)
 
 pub returns-then-not-are_run-clause-write_failed : goal.returns-then-not-are_run-clause-write_failed
 returns-then-not-are_run-clause-write_failed g c five =
-    let failed = c.write.ensures.failed (omega (arith, five)) in
-    (failed.2, (1, codes "usage: fjcalc run\n", inl ((λ run. true≢false (sym (c.are_run.ensures.1 run) ∙ c.if-not-are_run.true)), refl, refl), failed.1))
-
-pub returns-in-Ok-respond-clause-write_failed : goal.returns-in-Ok-respond-clause-write_failed
-returns-in-Ok-respond-clause-write_failed g c five =
-    let failed = c.write-in-Ok-respond.ensures.failed (omega (arith, five)) in
-    let outcome = c.in-Ok-respond.outcome in
-    let read = c.in-Ok.ensures in (
+    let failed = c.write.ensures.failed (omega (arith, five)) in (
       failed.2,
       (
-        outcome.status,
-        outcome.output.items,
+        [],
+        usage_line,
+        inl ((λ run. true≢false (sym (c.are_run.ensures.1 run) ∙ c.if-not-are_run.true)), refl),
+        (g.K.Sink.taken c.args.sink.now, appends_nothing (g.K.Sink.taken c.args.sink.now), failed.1),
+      ),
+    )
+
+pub returns-in-Ok-read_script-clause-write_failed : goal.returns-in-Ok-read_script-clause-write_failed
+returns-in-Ok-read_script-clause-write_failed g c five =
+    let failed = c.answer_all.ensures.failed five in
+    let script = c.in-Ok-read_script.script in
+    let answered = failed.1.0 in
+    let last = failed.1.1 in
+    let read = is_read c.in-Ok.bytes.items c.deref.result.now c.in-Ok.bytes.ok.0 c.deref.ensures.value c.in-Ok.ensures.taken c.in-Ok.ensures.short c.in-Ok.ensures.whole in (
+      failed.0,
+      (
+        pieces_of script.env answered,
+        answer_bytes script.env.vars last.0.number last.1,
         inr (
           c.are_run.ensures.0 c.if-not-are_run.false,
           (
-            c.in-Ok.bytes.items,
-            record {
-              taken = read.taken;
-              short = subst (λ n. n ≤ 1048577) c.in-Ok.bytes.ok.0 read.short;
-              whole = subst (λ n. IsAtEnd (g.S.Source.left c.read_session.new.source) ⊎ (n ≡ 1048577)) c.in-Ok.bytes.ok.0 read.whole;
-            },
-            subst (λ bytes. IsOutcome bytes outcome.status outcome.output.items) c.deref.ensures.value c.in-Ok-respond.ensures,
+            c.deref.result.now,
+            read,
+            inr (
+              script,
+              c.in-Ok-read_script.ensures,
+              (
+                answered ++ last ∷ [],
+                subst (λ k. AreAnswered script.env (take k script.asked) (answered ++ last ∷ [])) (sym (length_push answered last)) failed.1.2,
+                sym (map_push (λ a. answer_bytes script.env.vars a.0.number a.1) answered last),
+              ),
+            ),
           ),
         ),
-        subst (AppendsFront (g.K.Sink.taken c.args.sink.now) (g.K.Sink.taken c.write-in-Ok-respond.new.sink)) c.deref-in-Ok-respond.ensures.value failed.1,
+        failed.1.3,
+      ),
+    )
+
+pub returns-in-Ok-read_script-clause-memory : goal.returns-in-Ok-read_script-clause-memory
+returns-in-Ok-read_script-clause-memory g c six =
+    let wanting = c.answer_all.ensures.memory six in
+    let script = c.in-Ok-read_script.script in
+    let run = c.are_run.ensures.0 c.if-not-are_run.false in
+    let read = is_read c.in-Ok.bytes.items c.deref.result.now c.in-Ok.bytes.ok.0 c.deref.ensures.value c.in-Ok.ensures.taken c.in-Ok.ensures.short c.in-Ok.ensures.whole in (
+      run,
+      inr (
+        pieces_of script.env wanting.0,
+        inr (
+          run,
+          (
+            c.deref.result.now,
+            read,
+            inr (script, c.in-Ok-read_script.ensures, (wanting.0, wanting.1, refl)),
+          ),
+        ),
+        wanting.2,
+      ),
+    )
+
+pub returns-in-Err-At-clause-whole : goal.returns-in-Err-At-clause-whole
+returns-in-Err-At-clause-whole g c small =
+    let written = c.write_fault.ensures.written small in
+    let fault = c.in-Err-At.fault in
+    let read = is_read c.in-Ok.bytes.items c.deref.result.now c.in-Ok.bytes.ok.0 c.deref.ensures.value c.in-Ok.ensures.taken c.in-Ok.ensures.short c.in-Ok.ensures.whole in (
+      fault_line fault ∷ [],
+      inr (
+        c.are_run.ensures.0 c.if-not-are_run.false,
+        (
+          c.deref.result.now,
+          read,
+          inl (fault, subst (λ e. IsReadingOf (session.script c.deref.result.now) (Err e)) c.in-Err-At.field-0-is c.in-Err-At.ensures, written.0, refl),
+        ),
+      ),
+      subst (Appends (g.K.Sink.taken c.args.sink.now) (g.K.Sink.taken c.write_fault.new.sink)) (sym (append-nil (fault_line fault))) written.1,
+    )
+
+pub returns-in-Err-At-clause-write_failed : goal.returns-in-Err-At-clause-write_failed
+returns-in-Err-At-clause-write_failed g c five =
+    let failed = c.write_fault.ensures.failed five in
+    let fault = c.in-Err-At.fault in
+    let read = is_read c.in-Ok.bytes.items c.deref.result.now c.in-Ok.bytes.ok.0 c.deref.ensures.value c.in-Ok.ensures.taken c.in-Ok.ensures.short c.in-Ok.ensures.whole in (
+      failed.1,
+      (
+        [],
+        fault_line fault,
+        inr (
+          c.are_run.ensures.0 c.if-not-are_run.false,
+          (
+            c.deref.result.now,
+            read,
+            inl (fault, subst (λ e. IsReadingOf (session.script c.deref.result.now) (Err e)) c.in-Err-At.field-0-is c.in-Err-At.ensures, refl),
+          ),
+        ),
+        (g.K.Sink.taken c.args.sink.now, appends_nothing (g.K.Sink.taken c.args.sink.now), failed.0),
       ),
     )

@@ -1,0 +1,40 @@
+-- Questions of accepted sessions.
+use Rattle.std.specs.Prelude.{◌≡◌, ℕ, ◌≤◌, ◌^◌, List, All, Contains, Ok, Some, length, slice_get}
+use Rattle.fj_coeff.specs.Field.{primes}
+use Rattle.fj_theory.specs.Exponents.{total}
+use Rattle.fj_theory.specs.Plain.{HasRanksBelow, PlainPolynomial, polynomial}
+use Rattle.fj_theory.specs.PointIdeal.{UsesFirst}
+use Rattle.fj_script.specs.declared.question.Asked.{Asked}
+use Rattle.fj_script.specs.declared.script.Env.{Env}
+use Rattle.fj_script.specs.declared.script.Script.{Script}
+use Rattle.fj_script.specs.declared.value.Value.{Value}
+use Rattle.fj_script.specs.declared.value.Value.TheVariants as values
+use Rattle.fj_script.specs.Script as session
+use Rattle.fj_script.specs.Seen.{IsReadingOf}
+
+-- The bytes are an accepted session with this script.
+abbrev pub IsScriptOf : List ℕ → Script → Type 0
+IsScriptOf bytes script = IsReadingOf (session.script bytes) (Ok script)
+
+-- The ring with its values and the question are those of one accepted session.
+pub record AreOfOneSession (env : Env) (asked : Asked) : Type 0 where
+  pub bytes : List ℕ
+  pub script : Script
+  pub accepted : IsScriptOf bytes script
+  pub env_there : env ≡ script.env
+  pub asked_there : Contains script.asked asked
+
+-- What is known of a question for parts in an accepted session: the name stands for a polynomial over GF(p) in the
+-- variables of the ring.
+pub record IsPartsQuestion (env : Env) (e place : ℕ) : Type 0 where
+  pub prime : Contains primes env.p
+  pub small : e ≤ 12
+  pub name : List ℕ
+  pub f : PlainPolynomial
+  pub stands : slice_get env.values place ≡ Some (name, values.Poly f)
+  pub ranks : HasRanksBelow env.p f
+  pub low : All (λ t. total t.0 ≤ 2 ^ 40) f.terms
+  pub variables : UsesFirst (length env.vars) (polynomial f)
+
+abbrev pub IsPoly : Value → Type 0
+IsPoly value = (f : PlainPolynomial) × (value ≡ values.Poly f)

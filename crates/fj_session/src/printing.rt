@@ -1,0 +1,152 @@
+//! The printed texts of answers and faults.
+ghost use Rattle.std.specs.Prelude.{ℕ, ◌≡◌, ◌==◌, ◌≤◌, [], ◌++◌, All, length, map, take, codes, decimal, IfOk, OnOk, if◌then◌else◌};
+ghost use Rattle.fj_session.specs.Answer.{AnswerUsesFirst, RowUsesFirst};
+ghost use Rattle.fj_session.specs.Text.{answer_bytes, fault_line, kind_bytes, residue_bytes, row_line, rows_bytes};
+
+use super::types::{Answer, PartList, PartRow};
+use fj_mono::Mono;
+use fj_script::{Fault, FaultKind};
+use fj_text::{Names, print_poly};
+use itoa::Buffer;
+use std::alloc::{AllocError, Global};
+
+/// The text of the answer to the question with this number. The variables have these names.
+///
+/// Each part has a line `k: part (a1,..,an) = h`, with the n exponents of its residue; where there is none, the line is
+/// `k: none`. An answer that is left for later has the line `k: later`.
+///
+/// Condition: nothing past the names occurs.
+pub fn print_answer(
+    alloc: Global,
+    vars: &Names,
+    number: u32,
+    a: &Answer,
+) -> Result<Vec<u8>, AllocError>
+    requires { AnswerUsesFirst (length vars.now) a.now }
+    ensures { IfOk result (λ text. text.items ≡ answer_bytes vars.now number a.now) }
+{
+    let mut out = Vec::new(alloc);
+    match a {
+        Answer::Parts(rows) => push_rows(alloc, &mut out, vars, number, rows)?,
+        Answer::Later => push_word(&mut out, number, b": later\n")?,
+    }
+    Ok(out)
+}
+
+/// The line of a fault: `fault KIND at LINE:COLUMN`.
+#[tactic(auto, unfolding(crate::specs::Text::fault_line))]
+pub(crate) fn print_fault(alloc: Global, fault: &Fault) -> Result<Vec<u8>, AllocError>
+    ensures { IfOk result (λ text. text.items ≡ fault_line fault.now) }
+{
+    let mut out = Vec::new(alloc);
+    out.extend_from_slice(b"fault ")?;
+    out.extend_from_slice(kind_name(fault.kind))?;
+    out.extend_from_slice(b" at ")?;
+    push_decimal(&mut out, u64::from(fault.line))?;
+    out.push(b':')?;
+    push_decimal(&mut out, u64::from(fault.column))?;
+    out.push(b'\n')?;
+    Ok(out)
+}
+
+/// The printed name of a kind of fault.
+fn kind_name(kind: FaultKind) -> &'static [u8]
+    ensures { result.now ≡ kind_bytes kind }
+{
+    match kind {
+        FaultKind::Long => b"Long",
+        FaultKind::Byte => b"Byte",
+        FaultKind::Syntax => b"Syntax",
+        FaultKind::NoRing => b"NoRing",
+        FaultKind::Prime => b"Prime",
+        FaultKind::Vars => b"Vars",
+        FaultKind::Taken => b"Taken",
+        FaultKind::Unknown => b"Unknown",
+        FaultKind::Kind => b"Kind",
+        FaultKind::Wide => b"Wide",
+        FaultKind::Large => b"Large",
+        FaultKind::Constant => b"Constant",
+        FaultKind::Arity => b"Arity",
+        FaultKind::Many => b"Many",
+        FaultKind::Range => b"Range",
+    }
+}
+
+/// Appends the lines of the parts, for the question with this number.
+fn push_rows(
+    alloc: Global,
+    out: &mut Vec<u8>,
+    vars: &Names,
+    number: u32,
+    rows: &PartList,
+) -> Result<(), AllocError>
+    requires { All (RowUsesFirst (length vars.now)) rows.now }
+    ensures { OnOk result (out.new.items ≡ out.old.items ++ rows_bytes vars.now number rows.now) }
+{
+    if rows.len() == 0 {
+        return push_word(out, number, b": none\n");
+    }
+    for place in 0..rows.len() {
+        push_row(alloc, out, vars, number, rows.get(place))?;
+    }
+    Ok(())
+}
+
+/// Appends the line of a part, for the question with this number.
+fn push_row(
+    alloc: Global,
+    out: &mut Vec<u8>,
+    vars: &Names,
+    number: u32,
+    row: &PartRow,
+) -> Result<(), AllocError>
+    requires { RowUsesFirst (length vars.now) row.now }
+    ensures { OnOk result (out.new.items ≡ out.old.items ++ row_line vars.now number row.now) }
+{
+    push_word(out, number, b": part ")?;
+    push_residue(out, vars.len(), &row.residue)?;
+    out.extend_from_slice(b" = ")?;
+    out.extend_from_slice(&print_poly(alloc, &row.poly, vars)?)?;
+    out.push(b'\n')?;
+    Ok(())
+}
+
+/// Appends the exponents of the first variables, in parentheses.
+fn push_residue(out: &mut Vec<u8>, count: usize, residue: &Mono) -> Result<(), AllocError>
+    requires { count ≤ 8 }
+    ensures { OnOk result (out.new.items ≡ out.old.items ++ residue_bytes (take count residue.now.exponents)) }
+{
+    out.push(b'(')?;
+    for place in 0..count {
+        push_comma(out, place)?;
+        push_decimal(out, residue.exp(place))?;
+    }
+    out.push(b')')?;
+    Ok(())
+}
+
+/// Appends the comma between numbers, unless no number is there yet.
+fn push_comma(out: &mut Vec<u8>, place: usize) -> Result<(), AllocError>
+    ensures { OnOk result (out.new.items ≡ out.old.items ++ (if place == 0 then [] else codes ",")) }
+{
+    if place != 0 {
+        out.push(b',')?;
+    }
+    Ok(())
+}
+
+/// Appends the number of a question and what stands behind it.
+fn push_word(out: &mut Vec<u8>, number: u32, word: &[u8]) -> Result<(), AllocError>
+    ensures { OnOk result (out.new.items ≡ out.old.items ++ (decimal number ++ word.now)) }
+{
+    push_decimal(out, u64::from(number))?;
+    out.extend_from_slice(word)
+}
+
+/// Appends a number in decimal.
+fn push_decimal(out: &mut Vec<u8>, number: u64) -> Result<(), AllocError>
+    ensures { OnOk result (out.new.items ≡ out.old.items ++ decimal number) }
+{
+    let mut buffer = Buffer::new();
+    out.extend_from_slice(buffer.format(number).as_bytes())
+}

@@ -1,0 +1,62 @@
+//! Answers to questions.
+ghost use Rattle.std.specs.Prelude.{◌≡◌, ◌<◌, length, slice_get, Some};
+
+use fj_mono::Mono;
+use fj_plain::PlainPoly;
+use std::marker::Model;
+
+/// A part of a polynomial: the exponents of its residue, each below q, and the part, whose terms fall in the printing
+/// order of the question.
+#[derive(Debug, Drop)]
+pub struct PartRow {
+    pub residue: Mono,
+    pub poly: PlainPoly,
+}
+
+/// The parts that aren't zero, their residues rising in Lex.
+#[derive(Debug, Drop)]
+pub struct PartList {
+    rows: Vec<PartRow>,
+}
+
+impl Model for PartList {
+    ghost use Rattle.std.specs.Prelude.{List};
+    ghost use Rattle.fj_session.specs.declared.types.PartRow.{PartRow};
+
+    ghost Value = { List PartRow };
+
+    ghost view = { λ l. l.rows.items };
+}
+
+impl PartList {
+    /// The list of these parts.
+    pub fn of(v: Vec<PartRow>) -> PartList
+        ensures { result ≡ v.items }
+    {
+        PartList { rows: v }
+    }
+
+    /// The number of parts.
+    pub fn len(&self) -> usize
+        ensures { result ≡ length self.now }
+    {
+        self.rows.len()
+    }
+
+    /// The part at place i, counted from 0.
+    pub fn get(&self, i: usize) -> &PartRow
+        requires { i < length self.now }
+        ensures { slice_get self.now i ≡ Some result.now }
+    {
+        &self.rows[i]
+    }
+}
+
+/// The answer to a question.
+#[derive(Debug, Drop)]
+pub enum Answer {
+    /// The parts of a polynomial at e.
+    Parts(PartList),
+    /// Questions of this kind are left for later.
+    Later,
+}
