@@ -17,13 +17,13 @@ prime_positive p found = by found.0 found.1 found.2
     by (suc (suc (suc (suc (suc zero))))) l e = omega (arith, e)
     by (suc (suc (suc (suc (suc (suc k)))))) l e = absurd (omega arith)
 
-pub prime_listed : (p : ℕ) → list_any (λ q. q == p) primes ≡ true → Contains primes p
+pub prime_listed : (p : ℕ) → list_any (λ q. p == q) primes ≡ true → Contains primes p
 prime_listed p h = at primes h
   where
-    at : (xs : List ℕ) → list_any (λ q. q == p) xs ≡ true → Contains xs p
+    at : (xs : List ℕ) → list_any (λ q. p == q) xs ≡ true → Contains xs p
     at [] h = absurd (true≢false (sym h))
-    at (q ∷ xs) h = by (λ k. at xs k) (q == p) refl h
+    at (q ∷ xs) h = by (λ k. at xs k) (p == q) refl h
       where
-        by : (list_any (λ r. r == p) xs ≡ true → Contains xs p) → (t : Bool) → (q == p) ≡ t → (t || list_any (λ r. r == p) xs) ≡ true → Contains (q ∷ xs) p
-        by later true e h = (0, omega arith, eqb-true q p e)
+        by : (list_any (λ r. p == r) xs ≡ true → Contains xs p) → (t : Bool) → (p == q) ≡ t → (t || list_any (λ r. p == r) xs) ≡ true → Contains (q ∷ xs) p
+        by later true e h = (0, omega arith, sym (eqb-true p q e))
         by later false e h = let c = later h in (suc c.0, omega (arith, c.1), c.2)
