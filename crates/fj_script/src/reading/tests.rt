@@ -7,11 +7,14 @@ use crate::fault::FaultKind::{
 use crate::fault::{Fault, FaultKind, ScriptFault};
 use crate::question::{AskedList, Question};
 use crate::script::Script;
-use crate::value::Value;
+use crate::value::{Value, ValueList};
 use fj_plain::OrderName;
 use std::alloc::{AllocError, Global};
 use std::process::Abort;
 use std::test::Fail;
+
+// A session, and its first fault by kind, line and column.
+type Row = (&'static str, FaultKind, u32, u32);
 
 // A session in which the lines are parted by `|`.
 fn bytes(alloc: Global, session: &str) -> Result<Vec<u8>, AllocError> {
@@ -48,7 +51,7 @@ fn reads(rt: &impl Abort, alloc: Global, session: &str) -> Result<Script, Fail> 
 }
 
 // Sessions and their first faults.
-const FAULTS: [(&str, FaultKind, u32, u32); 179] = [
+static FAULTS: [Row; 179] = [
     ("", NoRing, 1, 1),
     ("ring 4 x", Prime, 1, 6),
     ("ring 2 x, x", Taken, 1, 11),
@@ -521,7 +524,7 @@ const FAULTS: [(&str, FaultKind, u32, u32); 179] = [
 ];
 
 // Sessions without a fault.
-const ACCEPTED: [&str; 13] = [
+static ACCEPTED: [&'static str; 13] = [
     "ring 2x",
     "ring 02 x",
     "ring 2 ring, ask|poly poly = ring*ask|ask parts 1 poly",
@@ -540,10 +543,10 @@ const ACCEPTED: [&str; 13] = [
 #[test]
 fn sessions_and_faults(rt: HostRuntime) -> Result<(), Fail> {
     let alloc = rt.alloc();
-    for (session, kind, line, column) in FAULTS {
-        fails(&rt, alloc, &bytes(alloc, session)?, (kind, line, column))?;
+    for (session, kind, line, column) in &FAULTS {
+        fails(&rt, alloc, &bytes(alloc, session)?, (*kind, *line, *column))?;
     }
-    for session in ACCEPTED {
+    for session in &ACCEPTED {
         let _script = reads(&rt, alloc, session)?;
     }
     Ok(())
@@ -623,9 +626,19 @@ fn values_and_questions(rt: HostRuntime) -> Result<(), Fail> {
         alloc,
         "ring 3 x, y|ideal J = (x*y, 0, -1)|poly f = x*y+4*x^3+y^2|order lex|ask fpure J|budget 7|point P = (-1, 5)|ask threshold f P 2|ask test f 6/8|",
     )?;
-    let values = script.env.values;
+    holds(&rt, &script)
+}
+
+// What that session holds.
+fn holds(rt: &impl Abort, script: &Script) -> Result<(), Fail> {
     assert_eq!(rt; script.env.p, 3);
     assert_eq!(rt; script.env.vars.len(), 2);
+    declared(rt, &script.env.values)?;
+    questions(rt, &script.asked)
+}
+
+// The values of that session.
+fn declared(rt: &impl Abort, values: &ValueList) -> Result<(), Fail> {
     assert_eq!(rt; values.len(), 3);
     if let (name, Value::Poly(f)) = values.get(1) {
         assert_eq!(rt; name, "f");
@@ -639,7 +652,9 @@ fn values_and_questions(rt: HostRuntime) -> Result<(), Fail> {
     if let (_, Value::Ideal(j)) = values.get(0) {
         assert_eq!(rt; j.len(), 3);
         assert_eq!(rt; j.get(1).len(), 0);
-        assert_eq!(rt; j.get(2).get(0).rank, 2);
+        let last = j.get(2);
+        assert_eq!(rt; last.len(), 1);
+        assert_eq!(rt; last.get(0).rank, 2);
     } else {
         panic!(rt; "J is an ideal");
     }
@@ -650,7 +665,7 @@ fn values_and_questions(rt: HostRuntime) -> Result<(), Fail> {
     } else {
         panic!(rt; "P is a point");
     }
-    questions(&rt, &script.asked)
+    Ok(())
 }
 
 // The questions of that session.
