@@ -63,6 +63,7 @@ fn limit(rt: HostRuntime) -> Result<(), Fail> {
     let square: Poly<Fp<2>, Lex> = poly(&rt, alloc, &[([2, 0, 0, 0], 1)])?;
     let mut given = Vec::new(alloc);
     given.push(x.add(alloc, &power)?)?;
+    assert!(rt; given.iter().all(|g| !g.is_zero()));
     let (quotients, remainder) = divide(alloc, &x, &given)?;
     assert_eq!(rt; quotients.len(), 1);
     let one: Poly<Fp<2>, Lex> = poly(&rt, alloc, ONE)?;
@@ -90,6 +91,7 @@ fn quotients(rt: HostRuntime) -> Result<(), Fail> {
             &[([0, 2, 0, 0], 1), ([0, 0, 0, 0], 4)],
         ],
     )?;
+    assert!(rt; by.iter().all(|g| !g.is_zero()));
     let (found, remainder) = divide(alloc, &h, &by)?;
     let wanted = list(&rt, alloc, &[&[([1, 0, 0, 0], 1), ([0, 1, 0, 0], 1)], ONE])?;
     same_lists(&rt, &found, &wanted);
