@@ -115,7 +115,8 @@ fn root_of_quotient<K: Coeff>(alloc: Global, p: u64, row: Row<'_>) -> Result<Lis
 }
 
 // x^3 + y^3 + z^3 is F-pure over GF(7), where this root is (1), and not over GF(5), where it is (x, y, z). x^2 isn't over
-// GF(2), and x^2*y + x^2 is so at (1, 1) and not at (0, 0): their root is (x).
+// GF(2), and x^2*y + x^2 is so at (1, 1) and not at (0, 0): their root is (x). x*y^2 + x is F-pure at (0, 0) over GF(2), but
+// isn't F-pure: its root is (y + 1), which isn't (1), and y + 1 isn't zero at (0, 0).
 #[test]
 fn splittings(rt: HostRuntime) -> Result<(), Fail> {
     let alloc = rt.alloc();
@@ -147,6 +148,14 @@ fn splittings(rt: HostRuntime) -> Result<(), Fail> {
         Order::Grevlex,
         root_of_quotient(alloc, 2, curve)?,
         &[X],
+    )?;
+    let lines: Row<'_> = &[([1, 2, 0], 1), ([1, 0, 0], 1)];
+    let line: Row<'_> = &[([0, 1, 0], 1), ([0, 0, 0], 1)];
+    has_basis::<Fp<2>>(
+        &rt,
+        Order::Grevlex,
+        root_of_quotient(alloc, 2, lines)?,
+        &[line],
     )
 }
 
