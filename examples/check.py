@@ -1,0 +1,67 @@
+#!/usr/bin/env python3
+"""Runs the built program on every example of the documents and of this folder, and compares what it writes.
+
+`examples/check.py [PROGRAM]`; the program is crates/fjcalc/out/fjcalc where none is named. The examples are
+
+- each NAME.session of this folder, with the answers NAME.answers;
+- in README.md and docs/MANUAL.md each block marked `session`, with the next block marked `answers`, and each block
+  marked `sh` that such a block follows, which is run at the top of the repository;
+- in docs/MANUAL.md each row of a table with a session in one cell, its lines parted by a return sign, and what the
+  program writes in the next.
+
+The status has to be the one that the manual tells: 2 after a fault, 3 where an answer is stopped or left for later.
+"""
+
+import pathlib
+import re
+import subprocess
+import sys
+
+HERE = pathlib.Path(__file__).resolve().parent
+TOP = HERE.parent
+SECONDS = 60
+
+LINES = r"(?:(?!```)[^\n]*\n)*"
+BLOCKS = re.compile(rf"^```(session|sh)\n({LINES})```\n{LINES}```answers\n({LINES})```$", re.MULTILINE)
+ROWS = re.compile(r"^\|.*\| `([^`|]*⏎[^`|]*)` \| `([^`|]*)` \|$", re.MULTILINE)
+
+
+def status_of(answers: str) -> int:
+    if answers.startswith("fault "):
+        return 2
+    return 3 if re.search(r"^\d+: (later|stopped \w+)$", answers, re.MULTILINE) else 0
+
+
+def examples(program: str):
+    """Each example: where it stands, the command, its input, and what it has to write."""
+    run = [program, "run"]
+    for session in sorted(HERE.glob("*.session")):
+        yield session.name, run, session.read_text(), session.with_suffix(".answers").read_text()
+    for document in [TOP / "README.md", TOP / "docs" / "MANUAL.md"]:
+        text = document.read_text()
+        for block in BLOCKS.finditer(text):
+            kind, asked, answers = block.groups()
+            where = f"{document.name}, line {text.count(chr(10), 0, block.start()) + 1}"
+            yield (where, run, asked, answers) if kind == "session" else (where, ["bash", "-c", asked], "", answers)
+        for row in ROWS.finditer(text):
+            where = f"{document.name}, line {text.count(chr(10), 0, row.start()) + 1}"
+            lines = [line.strip() for line in row[1].split("⏎")]
+            yield where, run, "\n".join(lines) + "\n", row[2] + "\n"
+
+
+def main() -> None:
+    program = str(pathlib.Path(sys.argv[1] if len(sys.argv) > 1 else TOP / "crates" / "fjcalc" / "out" / "fjcalc").resolve())
+    passed = failed = 0
+    for where, command, asked, answers in examples(program):
+        done = subprocess.run(command, cwd=TOP, input=asked, capture_output=True, text=True, timeout=SECONDS)
+        if (done.stdout, done.returncode) == (answers, status_of(answers)):
+            passed += 1
+            continue
+        failed += 1
+        print(f"{where}: status {done.returncode}, wanted {status_of(answers)}\n--- written\n{done.stdout}--- wanted\n{answers}")
+    print(f"examples: {passed} passed, {failed} failed")
+    sys.exit(1 if failed or not passed else 0)
+
+
+if __name__ == "__main__":
+    main()
