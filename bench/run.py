@@ -1,112 +1,93 @@
 #!/usr/bin/env python3
-"""Times `mul`, `pow` and `parts`, and prints a table.
+"""Times the built program on sessions, and beside it Macaulay2 and Singular on the same questions, where installed.
 
-`bench/run.py` builds the program that stands in `bench/program.txt` beside a copy of the crates, in a temporary folder,
-and runs it for each row. The command `rt` of the Rattle toolchain must be on the path. With a folder as its argument
-it builds there, and finds the program again in a later run.
-
-A row's time is the least of five runs, by a clock: other work on the machine makes it longer. The growth is that of
-the time from the row before, and the last column that of N log N, for the number N of terms worked on: for `parts` the
-two should be near each other.
+`bench/run.py [--turns] [WORKLOAD ..]`; the workloads are those of `bench/workloads.py`, all of them where none is
+named. The program is built by `bin/fjcalc`. A time is the least of three runs by a clock, less that of an empty session
+or script, so start-up is left out; below a thousandth of a second it says nothing. A ratio is the program's time over
+the peer's. Where a peer has no call for a question (Singular for Frobenius roots) the ratio is left out, and where
+its answers differ from the program's the row says so. With `--turns` the least budget with which the basis of the
+first ideal is answered is looked for, by bisection: the number of turns that the run takes.
 """
 
-import math
 import pathlib
-import shutil
 import subprocess
 import sys
-import tempfile
+import time
 
-HERE = pathlib.Path(__file__).resolve().parent
-USED = ["fj_coeff", "fj_mono", "fj_poly", "fj_root"]
-RUNS = 5
+from peers import PEERS, Peer, Unknown
+from session import read
+from workloads import WORKLOADS
 
-# Each workload with its sizes, and what a term is that was worked on.
-WORKLOADS = [
-    ("mul-dense", [10, 100, 316, 1000], "products of two terms, most of which have the monomial of another"),
-    ("mul-sparse", [10, 100, 316, 1000], "products of two terms, hardly two of which have one monomial"),
-    ("pow", [12, 168, 1000, 2196], "terms of the power of x+y+1 with this exponent"),
-    ("parts-1", [10**3, 10**4, 10**5, 10**6], "terms, at e = 1"),
-    ("parts-3", [10**3, 10**4, 10**5, 10**6], "terms, at e = 3"),
-]
+TOP = pathlib.Path(__file__).resolve().parent.parent
+PROGRAM = TOP / "bin" / "fjcalc"
+RUNS = 3
+LIMIT = 600
 
 
-def crates_below(used: list[str]) -> dict[str, list[str]]:
-    """The crates of the repository that these and those below them stand on, themselves included."""
-    below = {}
-    for line in (HERE.parent / "crates.txt").read_text().splitlines():
-        name, _, wanted = line.partition(":")
-        below[name] = wanted.split()
-    found = {}
-    pending = list(used)
-    while pending:
-        name = pending.pop()
-        if name in below and name not in found:
-            found[name] = below[name]
-            pending.extend(below[name])
-    return found
-
-
-def build(folder: pathlib.Path) -> pathlib.Path:
-    """Copies the crates and the program into the folder, and builds the program."""
-    (folder / "crates").mkdir(parents=True, exist_ok=True)
-    shutil.copy(HERE.parent / "HANDLES", folder)
-    crates = crates_below(USED)
-    lines = [f"{name}: {' '.join(wanted)}" for name, wanted in crates.items()]
-    lines.append(f"bench: {' '.join(USED)} anyhow")
-    (folder / "crates.txt").write_text("\n".join(lines) + "\n")
-    for name in crates:
-        for part in ["src", "specs", "proofs"]:
-            source = HERE.parent / "crates" / name / part
-            target = folder / "crates" / name / part
-            shutil.rmtree(target, ignore_errors=True)
-            if source.is_dir():
-                shutil.copytree(source, target)
-    bench = folder / "crates" / "bench"
-    (bench / "src").mkdir(parents=True, exist_ok=True)
-    shutil.copy(HERE / "program.txt", bench / "src" / "main.rt")
-    print("proving and building; the first time this takes some minutes", file=sys.stderr)
-    built = subprocess.run(["rt", "run", "--", "pow", "1"], cwd=bench, capture_output=True, text=True)
-    program = bench / "out" / "bench"
-    if built.returncode != 0 or not program.exists():
-        sys.exit(f"the program was not built:\n{built.stdout[-2000:]}{built.stderr[-2000:]}")
-    return program
-
-
-def measure(program: pathlib.Path, workload: str, size: int) -> tuple[int, int, float]:
-    """The terms worked on, the terms of the answer, and the least time in seconds."""
-    best = math.inf
+def answered(session: str) -> tuple[list[str], float]:
+    """The lines that the program writes, and its least time in seconds."""
+    best, lines = float("inf"), []
     for _ in range(RUNS):
-        printed = subprocess.run([program, workload, str(size)], capture_output=True, text=True, check=True).stdout
-        worked, answer, micros = (int(word) for word in printed.split())
-        best = min(best, micros / 1e6)
-    return worked, answer, best
+        begin = time.perf_counter()
+        done = subprocess.run([PROGRAM, "run"], input=session, capture_output=True, text=True, timeout=LIMIT)
+        best = min(best, time.perf_counter() - begin)
+        lines = done.stdout.splitlines()
+    return lines, best
 
 
-def print_table(program: pathlib.Path) -> None:
-    print(f"{'workload':<12}{'size':>9}{'worked on':>11}{'answer':>9}{'seconds':>11}{'terms/s':>13}{'growth':>9}{'N log N':>9}")
-    for workload, sizes, _ in WORKLOADS:
-        before = None
-        for size in sizes:
-            worked, answer, seconds = measure(program, workload, size)
-            growth = ""
-            law = ""
-            if before is not None:
-                growth = f"{seconds / before[1]:.1f}"
-                law = f"{worked * math.log(worked) / (before[0] * math.log(before[0])):.1f}"
-            print(f"{workload:<12}{size:>9}{worked:>11}{answer:>9}{seconds:>11.6f}{worked / seconds:>13.0f}{growth:>9}{law:>9}")
-            before = (worked, seconds)
-    print()
-    for workload, _, meaning in WORKLOADS:
-        print(f"{workload}: worked on are {meaning}")
+def peer_answered(peer: Peer, text: str) -> tuple[list[str], float] | None:
+    """The same of a peer, or nothing where it has no call for a question."""
+    session = read(text)
+    try:
+        script = peer.script(session)
+    except Unknown:
+        return None
+    runs = [peer.run(script) for _ in range(RUNS)]
+    return peer.answers(runs[0][0], session), min(seconds for _, seconds in runs)
+
+
+def turns(session: str) -> int:
+    """The least budget with which no question is stopped."""
+    first, rest = session.split("\n", 1)
+    low, high = 0, 100_000
+    while high - low > 1:
+        middle = (low + high) // 2
+        lines, _ = answered(f"{first}\nbudget {middle}\n{rest}")
+        low, high = (middle, high) if any("stopped" in line for line in lines) else (low, middle)
+    return high
+
+
+def ratio(peer: Peer, text: str, lines: list[str], own: float, start: float) -> str:
+    there = peer_answered(peer, text)
+    if there is None:
+        return "-"
+    answers, seconds = there
+    mark = "" if answers == lines else " differs"
+    return f"{own / max(seconds - start, 1e-4):.2f}{mark}"
 
 
 def main() -> None:
-    if len(sys.argv) > 1:
-        print_table(build(pathlib.Path(sys.argv[1]).resolve()))
-        return
-    with tempfile.TemporaryDirectory() as folder:
-        print_table(build(pathlib.Path(folder)))
+    wanted = [word for word in sys.argv[1:] if word != "--turns"]
+    with_turns = "--turns" in sys.argv
+    peers = [peer for peer in PEERS if peer.is_installed()]
+    empty = "ring 2 x\n"
+    start = answered(empty)[1]
+    starts = {peer.name: (peer_answered(peer, empty) or ([], 0.0))[1] for peer in peers}
+    header = f"{'workload':<10}{'size':>6}{'seconds':>10}{'growth':>8}" + ("   turns" if with_turns else "")
+    print(header + "".join(f"{'to ' + peer.name:>20}" for peer in peers))
+    for name, make, sizes in WORKLOADS:
+        if wanted and name not in wanted:
+            continue
+        before = None
+        for size in sizes:
+            text = make(size)
+            lines, seconds = answered(text)
+            own = max(seconds - start, 1e-4)
+            growth = f"{own / before:.1f}" if before else ""
+            count = f"{turns(text):>8}" if with_turns and name in ("cyclic", "katsura", "quadrics") else ("        " if with_turns else "")
+            ratios = "".join(f"{ratio(peer, text, lines, own, starts[peer.name]):>20}" for peer in peers)
+            print(f"{name:<10}{size:>6}{own:>10.4f}{growth:>8}{count}{ratios}", flush=True)
+            before = own
 
 
 if __name__ == "__main__":
