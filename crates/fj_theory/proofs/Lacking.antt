@@ -1,7 +1,7 @@
 -- Where a list lacks a variable, so does each reduced basis of its ideal.
-use Rattle.std.proofs.Common.{◌≡◌, ◌≢◌, ◌⊎◌, inl, inr, ℕ, zero, List, All, Contains, sym, ap, ap₂, ◌∙◌, subst, arith}
+use Rattle.std.proofs.Common.{◌≡◌, ◌≢◌, ◌⊎◌, inl, inr, ℕ, zero, List, get_or, All, Contains, sym, ap, ap₂, ◌∙◌, subst, arith}
 use native.Mathlib.Decide.{ℕ_discrete}
-use Rattle.std.proofs.lemmas.List.Elements.{All-weaker, All-map}
+use Rattle.std.proofs.lemmas.List.Elements.{All-map}
 use Rattle.fj_coeff.specs.Field.{Field, IsField}
 use Rattle.fj_algebra.specs.Ring.{subtract}
 use Rattle.fj_algebra.specs.Order.{Divides}
@@ -29,7 +29,8 @@ use Rattle.fj_theory.proofs.PolynomialRing.{polynomial_ring, map_zero, map_mul}
 use Rattle.fj_theory.proofs.OrderedPolynomials.{ordered_polynomials, polynomials}
 use Rattle.fj_theory.proofs.IdealBridge.{over, in_ring}
 use Rattle.fj_theory.proofs.ReducedBasis.{IsReducedBasis_polynomials, IsReducedBasis_over}
-use Rattle.fj_theory.proofs.Elimination.{lacks_over, all_lack, eighth_over, UsesFirst_from_lacks}
+use Rattle.fj_theory.proofs.Elimination.{lacks_over, eighth_over, UsesFirst_from_lacks}
+use Rattle.fj_theory.proofs.UsesFirst.{variable_over, UsesFirst-Lacks, Lacks-InRing}
 
 module _ {K M A : Type 0} (P : OrderedPolynomials K M A) (t : Variable P.monomials) where
   open P use {coefficient, ring.{zero as 𝟘}, field.ring as scalars, monomials.{times}, order}
@@ -114,17 +115,17 @@ module _ {K M A : Type 0} (P : OrderedPolynomials K M A) (t : Variable P.monomia
           let sum = t.exponent_times a b in
           lacks_from_lead P t eliminates k (omega (arith, whole, sum))
 
--- A reduced basis of polynomials that use the first seven variables uses them alone.
-pub IsReducedBasis-UsesFirst : {key : List ℕ → List ℕ} (K : IsMonomialOrder key) {F : Field} (L : IsField F) {M G : List Polynomial} → ArePolynomials F M
-    → All (UsesFirst 7) M
-    → IsReducedBasis F key M G → All (UsesFirst 7) G
+-- A reduced basis of polynomials that use the first n variables uses them alone.
+pub IsReducedBasis-UsesFirst : {key : List ℕ → List ℕ} (K : IsMonomialOrder key) {F : Field} (L : IsField F) {n : ℕ} {M G : List Polynomial} → ArePolynomials F M
+    → All (UsesFirst n) M
+    → IsReducedBasis F key M G → All (UsesFirst n) G
 unfolding ordered_polynomials
-IsReducedBasis-UsesFirst K L {M} {G} A uses S =
+IsReducedBasis-UsesFirst K L {n} {M} {G} A uses S =
     let X = in_ring A in
     let Y = in_ring (IsReducedBasis_polynomials K L A S) in
-    subst (All (UsesFirst 7)) Y.are (All-map (UsesFirst 7) (λ f. f.map) Y.list
-    (All-weaker (Lacks (polynomials L) (eighth_over L)) (λ f. UsesFirst 7 f.map) (λ f l. UsesFirst_from_lacks L f l) Y.list
-    (reduced_basis_lacks (ordered_polynomials L K) (eighth_over L) (all_lack L X uses) (IsReducedBasis_over K L X Y S))))
+    subst (All (UsesFirst n)) Y.are (All-map (UsesFirst n) (λ f. f.map) Y.list
+    (λ k d h. UsesFirst-Lacks L (get_or Y.list k d) (λ i b l.
+    reduced_basis_lacks (ordered_polynomials L K) (variable_over L i b) (Lacks-InRing L i b l X uses) (IsReducedBasis_over K L X Y S) k d h)))
 
 -- A factor of a polynomial that uses the first seven variables uses them alone.
 pub UsesFirst-product : {F : Field} (L : IsField F) {f g : Polynomial} → IsPolynomial F f → IsPolynomial F g → f ≢ empty → UsesFirst 7 (product F f g) → UsesFirst 7 g
