@@ -1,17 +1,16 @@
 -- The eighth variable: its exponents, the order that eliminates it, and degree orders.
-use Rattle.std.proofs.Common.{◌≡◌, ℕ, ◌<◌, List, length, get_or, set, take, sum, refl, sym, ap, ◌∙◌, arith, take_all}
+use Rattle.std.proofs.Common.{◌≡◌, ℕ, ◌<◌, List, length, get_or, set, take, sum, refl, sym, ◌∙◌, arith, take_all}
 use Rattle.std.proofs.Common.{nat_cmp, Ordering, Less, Equal, Greater}
 use Rattle.std.specs.Ordering.{ordering_then}
 use Rattle.std.proofs.lemmas.List.Sums.{sum_by_more}
 use Rattle.std.specs.Cmp.Lexicographic.{slice_cmp}
-use Rattle.std.proofs.lemmas.Bool.Decides.{nat_tests}
 use Rattle.fj_algebra.specs.Variable as variable
 use Rattle.fj_algebra.specs.StrictSteps.{IsDegreeOrder}
 use Rattle.fj_theory.specs.Exponents.{origin, total}
 use Rattle.fj_theory.specs.MonomialOrder.{elim_key, grevlex_key, front_sums}
 use Rattle.fj_theory.proofs.Keys.{elim_key-IsMonomialOrder, grevlex_key-IsMonomialOrder}
 use Rattle.fj_theory.proofs.OrderedPolynomials.{Exponents, monomials, monomial_order}
-use Rattle.fj_theory.proofs.Variables.{variable_at, exponent_at, list_of_variable}
+use Rattle.fj_theory.proofs.Variables.{variable_at, exponent_at, list_of_variable, first_less}
 
 pub eighth : variable.Variable monomials
 eighth = variable_at 7 (omega arith)
@@ -24,12 +23,6 @@ eighth_exponent a = exponent_at 7 _ a
 pub eighth_list : eighth.variable.list ≡ set origin 7 1
 unfolding eighth
 eighth_list = list_of_variable 7 _
-
-first_less : (x y : ℕ) (o : Ordering) → x < y → ordering_then (nat_cmp x y) o ≡ Less
-first_less x y o h = ap (λ r. ordering_then r o) (less x y h)
-  where
-    less : (x y : ℕ) → x < y → nat_cmp x y ≡ Less
-    less x y h = grind (arith, nat_tests)
 
 twice : (r o : Ordering) → ordering_then r (ordering_then r o) ≡ ordering_then r o
 twice Less o = refl

@@ -4,8 +4,8 @@ use Rattle.fj_coeff.specs.Field.{Field, IsField}
 use Rattle.fj_theory.specs.Ideal.{ArePolynomials, list_combination, Member, Inside, Equal}
 use Rattle.fj_theory.specs.Polynomial.{Polynomial}
 use Rattle.fj_theory.specs.Rows.{IsRow, AreRows}
-use Rattle.fj_theory.proofs.Ideal.{Inside-nil, Inside-cons, Member-from_list}
-pub use Rattle.fj_theory.proofs.Ideal.{ArePolynomials-append, ArePolynomials-products, Inside-refl, Inside-trans, Equal-refl, Equal-sym, Equal-trans, Member-Inside, Inside-append_both, Equal-append, Inside-products_both, Equal-products}
+use Rattle.fj_theory.proofs.Ideal.{Inside-nil, Inside-cons}
+pub use Rattle.fj_theory.proofs.Ideal.{ArePolynomials-append, ArePolynomials-products, Inside-refl, Inside-trans, Equal-refl, Equal-sym, Equal-trans, Member-Inside, Member-from_list, Inside-append, Inside-append_both, Equal-append, Inside-products_both, Equal-products}
 pub use Rattle.fj_theory.proofs.FrobeniusPower.{ArePolynomials-frobenius_power, Inside-frobenius_power, Equal-frobenius_power}
 pub use Rattle.fj_theory.proofs.Root.{IsRoot-Equal, IsRoot-Equal_root}
 

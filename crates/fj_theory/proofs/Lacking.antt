@@ -9,6 +9,7 @@ use Rattle.fj_algebra.specs.Polynomial.{OrderedPolynomials, IsLead}
 use Rattle.fj_algebra.specs.Buchberger.{IsReducible}
 use Rattle.fj_algebra.specs.ReducedBasis as basis
 use Rattle.fj_algebra.specs.Variable.{Variable, Eliminates, monomial_power, Lacks, IsPowerCoefficient}
+use Rattle.fj_algebra.proofs.Lists.{All-map_back}
 use Rattle.fj_algebra.proofs.Ring.{equal_from_subtract, subtract_self}
 use Rattle.fj_algebra.proofs.Ideal.{Member-subtract, Inside-Contains}
 use Rattle.fj_algebra.proofs.Order.{not_below_multiple, one_times, Divides-trans, Divides-refl}
@@ -17,20 +18,19 @@ use Rattle.fj_algebra.proofs.Polynomial.{Supported-zero, coefficient_zero, at_mo
 use Rattle.fj_algebra.proofs.Variable.{power_coefficient, coefficient_member, exponent_divides}
 use Rattle.fj_theory.specs.MonomialOrder.{IsMonomialOrder}
 use Rattle.fj_theory.specs.Polynomial.{Polynomial, IsPolynomial, product}
-use Rattle.fj_theory.specs.Ideal.{ArePolynomials}
+use Rattle.fj_theory.specs.Ideal.{ArePolynomials, multiples}
 use Rattle.fj_theory.specs.PointIdeal.{UsesFirst}
 use Rattle.fj_theory.specs.ReducedBasis.{IsReducedBasis}
 use Rattle.std.specs.FinMap.{empty}
 use Rattle.fj_algebra.proofs.Leads.{lead_product}
 use Rattle.fj_algebra.proofs.Elimination.{lacks_from_lead}
-use Rattle.fj_theory.proofs.Keys.{elim_key-IsMonomialOrder}
-use Rattle.fj_theory.proofs.EighthVariable.{elim_eliminates}
+use Rattle.fj_theory.proofs.Keys.{first_key-IsMonomialOrder}
 use Rattle.fj_theory.proofs.PolynomialRing.{polynomial_ring, map_zero, map_mul}
 use Rattle.fj_theory.proofs.OrderedPolynomials.{ordered_polynomials, polynomials}
 use Rattle.fj_theory.proofs.IdealBridge.{over, in_ring}
 use Rattle.fj_theory.proofs.ReducedBasis.{IsReducedBasis_polynomials, IsReducedBasis_over}
-use Rattle.fj_theory.proofs.Elimination.{lacks_over, eighth_over, UsesFirst_from_lacks}
-use Rattle.fj_theory.proofs.UsesFirst.{variable_over, UsesFirst-Lacks, Lacks-InRing}
+use Rattle.fj_theory.proofs.UsesFirst.{variable_over, Lacks-UsesFirst, UsesFirst-Lacks, Lacks-InRing}
+use Rattle.fj_theory.proofs.Variables.{first_key_eliminates}
 
 module _ {K M A : Type 0} (P : OrderedPolynomials K M A) (t : Variable P.monomials) where
   open P use {coefficient, ring.{zero as 𝟘}, field.ring as scalars, monomials.{times}, order}
@@ -127,10 +127,15 @@ IsReducedBasis-UsesFirst K L {n} {M} {G} A uses S =
     (λ k d h. UsesFirst-Lacks L (get_or Y.list k d) (λ i b l.
     reduced_basis_lacks (ordered_polynomials L K) (variable_over L i b) (Lacks-InRing L i b l X uses) (IsReducedBasis_over K L X Y S) k d h)))
 
--- A factor of a polynomial that uses the first seven variables uses them alone.
-pub UsesFirst-product : {F : Field} (L : IsField F) {f g : Polynomial} → IsPolynomial F f → IsPolynomial F g → f ≢ empty → UsesFirst 7 (product F f g) → UsesFirst 7 g
-unfolding ordered_polynomials polynomials eighth_over
-UsesFirst-product {F} L A B n u =
-    UsesFirst_from_lacks L (over B)
-    (factor_lacks (ordered_polynomials L elim_key-IsMonomialOrder) (eighth_over L) elim_eliminates (λ e. n (ap (λ f. f.map) e ∙ map_zero L))
-    (lacks_over L ((polynomial_ring L).mul (over A) (over B)) (subst (UsesFirst 7) (sym (map_mul L (over A) (over B))) u)))
+-- A factor of a polynomial that uses the first n variables uses them alone.
+pub UsesFirst-factor : {F : Field} (L : IsField F) {n : ℕ} {f g : Polynomial} → IsPolynomial F f → IsPolynomial F g → f ≢ empty → UsesFirst n (product F f g) → UsesFirst n g
+unfolding ordered_polynomials polynomials variable_over
+UsesFirst-factor L {n} A B nonzero u =
+    let whole : UsesFirst n ((polynomial_ring L).mul (over A) (over B)).map = subst (UsesFirst n) (sym (map_mul L (over A) (over B))) u in
+    UsesFirst-Lacks L (over B) (λ i h l.
+    factor_lacks (ordered_polynomials L (first_key-IsMonomialOrder i)) (variable_over L i h) (first_key_eliminates i h) (λ e. nonzero (ap (λ f. f.map) e ∙ map_zero L))
+    (Lacks-UsesFirst L i h l ((polynomial_ring L).mul (over A) (over B)) whole))
+
+pub UsesFirst-factors : {F : Field} (L : IsField F) {n : ℕ} {f : Polynomial} {M : List Polynomial} → IsPolynomial F f → ArePolynomials F M → f ≢ empty
+    → All (UsesFirst n) (multiples F f M) → All (UsesFirst n) M
+UsesFirst-factors {F} L {n} {f} {M} A P nonzero all k d h = UsesFirst-factor L A (P.each k d h) nonzero (All-map_back (UsesFirst n) (product F f) M all k d h)

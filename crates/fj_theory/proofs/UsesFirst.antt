@@ -24,7 +24,7 @@ use Rattle.fj_theory.proofs.Field.{zero_below}
 use Rattle.fj_theory.proofs.FormalSum.{same, same_true, same_itself, same_false}
 use Rattle.fj_theory.proofs.Frobenius.{power_positive}
 use Rattle.fj_theory.proofs.IdealBridge.{over, InRing, ArePolynomials-head, ArePolynomials-tail}
-use Rattle.fj_theory.proofs.Keys.{grevlex_key-IsMonomialOrder}
+use Rattle.fj_theory.proofs.Keys.{grevlex_key-IsMonomialOrder, index-plus}
 use Rattle.fj_theory.proofs.OrderedPolynomials.{Exponents, monomials, polynomials, ordered_polynomials, times as monomial_times}
 use Rattle.fj_theory.proofs.Parts.{residues_of, IsFamily-from_IsParts, part_at-coefficient}
 use Rattle.fj_theory.proofs.Polynomial.{coefficient-empty, coefficient-sum, coefficient-term, coefficient_below, get-coefficient}
@@ -32,7 +32,7 @@ use Rattle.fj_theory.proofs.PolynomialRing.{PolynomialOver, polynomial_ring, map
 use Rattle.fj_theory.proofs.ReducedBasis.{exponents_of, positive, positive_back}
 use Rattle.fj_theory.proofs.Residues.{Distinct}
 use Rattle.fj_theory.proofs.Roots.{field_power_positive}
-use Rattle.fj_theory.proofs.Variables.{exponent_at, variable_at, get_or-plus, get_or-origin}
+use Rattle.fj_theory.proofs.Variables.{exponent_at, variable_at, get_or-origin}
 
 -- A polynomial uses the first n variables alone where each later exponent below the eighth is zero.
 pub UsesFirst-from_exponents : {F : Field} {n : ℕ} {f : Polynomial} → IsPolynomial F f → ((i : ℕ) → i < 8 → n ≤ i → (a : List ℕ) → 0 < coefficient f a → get_or a i 0 ≡ 0)
@@ -114,7 +114,7 @@ AreZeroFrom n a = (i : ℕ) → n ≤ i → get_or a.list i 0 ≡ 0
 zero_from-times : (n : ℕ) (a b : Exponents) → AreZeroFrom n a → AreZeroFrom n b → AreZeroFrom n (monomials.times a b)
 unfolding monomials monomial_times
 zero_from-times n a b u v i l =
-    let e = get_or-plus a.list b.list i (a.is_exponents.eight ∙ sym b.is_exponents.eight) in
+    let e = index-plus a.list b.list i (a.is_exponents.eight ∙ sym b.is_exponents.eight) in
     let x = u i l in
     let y = v i l in
     omega (arith, e, x, y)

@@ -1,12 +1,16 @@
 -- The eight variables: the exponents of monomials at each of them.
-use Rattle.std.proofs.Common.{◌≡◌, ℕ, zero, suc, ◌+◌, ◌<◌, List, [], ◌∷◌, length, get_or, set, replicate, refl, sym, ap, ◌∙◌, arith, length-set}
+use Rattle.std.proofs.Common.{◌≡◌, ℕ, zero, suc, ◌<◌, List, [], ◌∷◌, length, get_or, set, replicate, refl, sym, ap, ◌∙◌, arith, length-set}
+use Rattle.std.proofs.Common.{nat_cmp, Ordering, Less}
+use Rattle.std.specs.Ordering.{ordering_then}
+use Rattle.std.proofs.lemmas.Bool.Decides.{nat_tests}
 use Rattle.std.proofs.lemmas.List.{get_or-set_same}
 use Rattle.fj_algebra.specs.Variable as variable
 use Rattle.fj_algebra.specs.Variable.{monomial_power}
 use Rattle.fj_theory.specs.Exponents.{IsExponents, origin, plus}
 use Rattle.fj_theory.specs.PointIdeal.{variable_exponents}
 use Rattle.fj_theory.proofs.Exponents.{cons_same, IsExponents-origin}
-use Rattle.fj_theory.proofs.OrderedPolynomials.{Exponents, exponents_equal, times, monomials}
+use Rattle.fj_theory.proofs.Keys.{first_key, first_key-IsMonomialOrder, index-plus}
+use Rattle.fj_theory.proofs.OrderedPolynomials.{Exponents, exponents_equal, times, monomials, monomial_order}
 
 -- The exponents of 1 in m variables.
 abbrev zeros : ℕ → List ℕ
@@ -39,15 +43,7 @@ split_power [] i = refl
 split_power (k ∷ a) zero = cons_same (omega arith) (zeros_plus a)
 split_power (k ∷ a) (suc i) = cons_same (omega arith) (split_power a i)
 
--- The exponent of a product at a place.
-pub get_or-plus : (a b : List ℕ) (i : ℕ) → length a ≡ length b → get_or (plus a b) i 0 ≡ get_or a i 0 + get_or b i 0
-unfolding plus
-get_or-plus [] [] i e = refl
-get_or-plus [] (y ∷ b) i e = absurd (omega (arith, e))
-get_or-plus (x ∷ a) [] i e = absurd (omega (arith, e))
-get_or-plus (x ∷ a) (y ∷ b) zero e = refl
-get_or-plus (x ∷ a) (y ∷ b) (suc i) e = get_or-plus a b i (omega (arith, e))
-
+-- The exponents of 1.
 pub get_or-origin : (i : ℕ) → get_or origin i 0 ≡ 0
 unfolding origin
 get_or-origin i = get_or-zeros 8 i
@@ -84,7 +80,7 @@ variable_at i h = record {
   variable = variable_of i;
   exponent = λ a. get_or a.list i 0;
   rest = rest i;
-  exponent_times = λ a b. get_or-plus a.list b.list i (a.is_exponents.eight ∙ sym b.is_exponents.eight);
+  exponent_times = λ a b. index-plus a.list b.list i (a.is_exponents.eight ∙ sym b.is_exponents.eight);
   exponent_variable = get_or-set_same origin i 1 0 (let e = IsExponents-origin.eight in omega (arith, h, e));
   exponent_rest = λ a. set_zero a.list i;
   split = λ a. exponents_equal _ a
@@ -99,3 +95,14 @@ module _ (i : ℕ) (h : i < 8) where
   pub list_of_variable : (variable_at i h).variable.list ≡ set origin i 1
   unfolding variable_at variable_of variable_exponents
   list_of_variable = refl
+
+pub first_less : (x y : ℕ) (o : Ordering) → x < y → ordering_then (nat_cmp x y) o ≡ Less
+first_less x y o h = ap (λ r. ordering_then r o) (less x y h)
+  where
+    less : (x y : ℕ) → x < y → nat_cmp x y ≡ Less
+    less x y h = grind (arith, nat_tests)
+
+-- The order in which the exponent decides first eliminates the variable.
+pub first_key_eliminates : (i : ℕ) (h : i < 8) → variable.Eliminates (monomial_order (first_key-IsMonomialOrder i)) (variable_at i h)
+unfolding monomial_order first_key variable_at
+first_key_eliminates i h = record { greater = λ a b l. record { is_less = first_less _ _ _ l } }
