@@ -1,6 +1,6 @@
 -- What is known of a question of an accepted session: its names stand for values of the kinds that it takes, and its
 -- numbers keep their limits.
-use Rattle.std.proofs.Common.{◌≡◌, ℕ, ◌+◌, ◌*◌, ◌^◌, ◌<◌, ◌≤◌, Bool, true, false, List, [], ◌∷◌, ◌++◌, length, get_or, length-append, Option, Some, None, ap, ◌∙◌, arith}
+use Rattle.std.proofs.Common.{◌≡◌, ℕ, ◌*◌, ◌^◌, ◌<◌, ◌≤◌, Bool, true, false, cond, List, [], ◌∷◌, ◌++◌, length-append, Option, Some, None, refl, ap, ◌∙◌, arith}
 use Rattle.std.specs.List.{slice_get}
 use Rattle.std.proofs.lemmas.List.{get_or_append_left}
 use Rattle.std.proofs.lemmas.Option.{get_or_from_slice_get, slice_get-get_or, slice_get_within}
@@ -9,8 +9,9 @@ use Rattle.fj_script.specs.declared.fault.FaultKind.{FaultKind}
 use Rattle.fj_script.specs.declared.question.Question.{Question}
 use Rattle.fj_script.specs.declared.question.Question.TheVariants as questions
 use Rattle.fj_script.specs.declared.value.Kind.{Kind}
+use Rattle.fj_script.specs.declared.value.Kind.TheVariants as kinds
 use Rattle.fj_script.specs.Names as names
-use Rattle.fj_script.specs.Session.{Value, kind}
+use Rattle.fj_script.specs.Session.{Terms, Value, Poly, Ideal, Point, is_nonconstant, kind}
 
 -- The name at this place stands for a value of a kind that is taken.
 pub record Names (taken : Kind → Option FaultKind) (values : List (List ℕ × Value)) (place : ℕ) : Type 0 where
@@ -99,3 +100,36 @@ module _ (values : List (List ℕ × Value)) (v : List ℕ × Value) where
   question_kept p (questions.PureAt j at) h = (name_kept h.0, name_kept h.1)
   question_kept p (questions.Split j) h = name_kept h
   question_kept p (questions.Compatible e u j) h = (h.0, name_kept h.1, name_kept h.2)
+
+-- A value of a kind that is taken has the shape of that kind.
+pub is_poly : (v : Value) → names.as_polynomial (kind v) ≡ None → (f : Terms) × (v ≡ Poly f)
+is_poly (Poly f) h = (f, refl)
+is_poly (Ideal fs) h = absurd cc
+is_poly (Point cs) h = absurd cc
+
+pub is_nonconstant_poly : (v : Value) → names.as_nonconstant (kind v) ≡ None → (f : Terms) × (v ≡ Poly f) × (is_nonconstant f ≡ true)
+is_nonconstant_poly (Poly f) h = (f, refl, by (is_nonconstant f) h)
+  where
+    by : (b : Bool) → names.as_nonconstant (cond b kinds.Nonconstant kinds.Constant) ≡ None → b ≡ true
+    by true h = refl
+    by false h = absurd cc
+is_nonconstant_poly (Ideal fs) h = absurd cc
+is_nonconstant_poly (Point cs) h = absurd cc
+
+pub is_ideal : (v : Value) → names.as_ideal (kind v) ≡ None → (fs : List Terms) × (v ≡ Ideal fs)
+is_ideal (Poly f) h = absurd (by (is_nonconstant f) h)
+  where
+    by : (b : Bool) → names.as_ideal (cond b kinds.Nonconstant kinds.Constant) ≡ None → ⊥
+    by true h = cc
+    by false h = cc
+is_ideal (Ideal fs) h = (fs, refl)
+is_ideal (Point cs) h = absurd cc
+
+pub is_point : (v : Value) → names.as_point (kind v) ≡ None → (cs : List ℕ) × (v ≡ Point cs)
+is_point (Poly f) h = absurd (by (is_nonconstant f) h)
+  where
+    by : (b : Bool) → names.as_point (cond b kinds.Nonconstant kinds.Constant) ≡ None → ⊥
+    by true h = cc
+    by false h = cc
+is_point (Ideal fs) h = absurd cc
+is_point (Point cs) h = (cs, refl)

@@ -1,8 +1,7 @@
 -- What statements keep: declared polynomials and generators are over GF(p), in the variables of the ring and of degree
 -- at most 1,000, and the arguments of each question are of the kinds and within the limits that it takes.
-use Rattle.std.proofs.Common.{◌≡◌, ◌≢◌, ℕ, zero, suc, ◌+◌, ◌<◌, ◌≤◌, Bool, true, false, ◌||◌, leb, ltb, leb-false, ltb-false, List, [], ◌∷◌, ◌++◌, length, map, get_or, length-append, All, Contains, Option, Some, None, Result, Ok, Err, refl, sym, ap, ◌∙◌, subst, arith}
-use Rattle.std.specs.List.{slice_get, list_any}
-use Rattle.std.specs.Option.{option_map, option_map_or}
+use Rattle.std.proofs.Common.{◌≡◌, ◌≢◌, ℕ, ◌+◌, ◌<◌, ◌≤◌, Bool, true, false, leb, ltb, leb-false, ltb-false, List, [], ◌∷◌, ◌++◌, length, length-append, All, Contains, Option, Some, None, Ok, Err, refl, sym, subst, arith}
+use Rattle.std.specs.Option.{option_map_or}
 use Rattle.std.specs.FinMap.{get}
 use Rattle.std.specs.Option.{is_some}
 use Rattle.std.specs.Str.{bytes_eq}
@@ -24,14 +23,10 @@ use Rattle.fj_text.proofs.FirstVariables.{AreZeroFrom}
 use Rattle.fj_text.specs.declared.scope.Meaning.TheVariants as meanings
 use Rattle.fj_text.specs.Expression as text
 use Rattle.fj_text.specs.State.{State, after_sign, next}
-use Rattle.fj_text.specs.Token.{Token, minus}
+use Rattle.fj_text.specs.Token.{minus}
 use Rattle.fj_text.specs.Word.{place_of}
-use Rattle.fj_script.specs.declared.fault.FaultKind.{FaultKind}
-use Rattle.fj_script.specs.declared.fault.LineFault.{LineFault}
 use Rattle.fj_script.specs.declared.question.Asked.{Asked}
 use Rattle.fj_script.specs.declared.question.Question.{Question}
-use Rattle.fj_script.specs.declared.value.Kind.{Kind}
-use Rattle.fj_script.specs.declared.value.Kind.TheVariants as kinds
 use Rattle.fj_script.specs.Declaration as declaration
 use Rattle.fj_script.specs.Items.{at_end, enclosed, listed, narrow}
 use Rattle.fj_script.specs.Names as names

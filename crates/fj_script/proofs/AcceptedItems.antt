@@ -1,9 +1,9 @@
 -- Lists that are read: what each item keeps holds of them.
-use Rattle.std.proofs.Common.{ℕ, zero, suc, List, [], ◌∷◌, ◌++◌, length, Ok}
+use Rattle.std.proofs.Common.{ℕ, zero, suc, List, [], ◌∷◌, ◌++◌, length}
 use Rattle.fj_text.specs.State.{State, after_sign}
 use Rattle.fj_text.specs.Token.{closing, opening}
 use Rattle.fj_script.specs.Items.{comma, enclosed, listed, more, sign}
-use Rattle.fj_script.specs.LineFault.{Answer, ◌>>=◌}
+use Rattle.fj_script.specs.LineFault.{Answer}
 use Rattle.fj_script.proofs.AcceptedYields.{Yields, Anything, yields_anything, yields_option, yields_then}
 
 module _ {A : Type 0} (P : List A → Type 0) (item : List A → State → Answer A) (each : (xs : List A) (s : State) → P xs → Yields (λ x. P (xs ++ x.0 ∷ [])) (item xs s)) where
