@@ -25,7 +25,7 @@ use Rattle.fj_session.specs.Answer.{IsForParts}
 use Rattle.fj_session.specs.Asked.{AreOfOneSession, IsIdealAt, IsPartsQuestion, IsPolyAt}
 
 -- The values of a ring are over GF(p), in its variables.
-abbrev AreSoundValues : Env → Type 0
+abbrev pub AreSoundValues : Env → Type 0
 AreSoundValues env = All (λ v. IsSoundValue env.p (length env.vars) v.1) (seen_values env.values)
 
 -- What is known of the session stands in terms of the ring with its values.
@@ -126,6 +126,9 @@ budget_known env asked one = let printing = (known env asked one).about.printing
 pub order_known : (env : Env) (asked : Asked) → AreOfOneSession env asked → asked.order ≢ orders.Elim
 order_known env asked one = (known env asked one).about.printing.named
 
+pub values_known : (env : Env) (asked : Asked) → AreOfOneSession env asked → AreSoundValues env
+values_known env asked one = (known env asked one).values
+
 pub question_known : (env : Env) (asked : Asked) (q : Question) → AreOfOneSession env asked → asked.question ≡ q → IsSoundQuestion env.p (seen_values env.values) q
 question_known env asked q one is = subst (IsSoundQuestion env.p (seen_values env.values)) is (known env asked one).about.question
 
@@ -136,12 +139,12 @@ parts_question env asked e place one is =
     record { prime = K.prime; small = q.0; poly = poly_at env place K.values q.1 }
 
 pub basis_question : (env : Env) (asked : Asked) (j : ℕ) → AreOfOneSession env asked → asked.question ≡ questions.Basis j → IsIdealAt env j
-basis_question env asked j one is = ideal_at env j (known env asked one).values (question_known env asked (questions.Basis j) one is)
+basis_question env asked j one is = ideal_at env j (values_known env asked one) (question_known env asked (questions.Basis j) one is)
 
 pub member_question : (env : Env) (asked : Asked) (f j : ℕ) → AreOfOneSession env asked → asked.question ≡ questions.Member f j → IsPolyAt env f × IsIdealAt env j
 member_question env asked f j one is =
     let q = question_known env asked (questions.Member f j) one is in
-    let vs = (known env asked one).values in
+    let vs = values_known env asked one in
     (poly_at env f vs q.0, ideal_at env j vs q.1)
 
 -- Two ideals.
@@ -149,20 +152,20 @@ both_at : (env : Env) (j k : ℕ) → AreSoundValues env → NamesIdeal (seen_va
 both_at env j k vs h = (ideal_at env j vs h.0, ideal_at env k vs h.1)
 
 pub same_question : (env : Env) (asked : Asked) (j k : ℕ) → AreOfOneSession env asked → asked.question ≡ questions.Same j k → IsIdealAt env j × IsIdealAt env k
-same_question env asked j k one is = both_at env j k (known env asked one).values (question_known env asked (questions.Same j k) one is)
+same_question env asked j k one is = both_at env j k (values_known env asked one) (question_known env asked (questions.Same j k) one is)
 
 pub sum_question : (env : Env) (asked : Asked) (j k : ℕ) → AreOfOneSession env asked → asked.question ≡ questions.Sum j k → IsIdealAt env j × IsIdealAt env k
-sum_question env asked j k one is = both_at env j k (known env asked one).values (question_known env asked (questions.Sum j k) one is)
+sum_question env asked j k one is = both_at env j k (values_known env asked one) (question_known env asked (questions.Sum j k) one is)
 
 pub product_question : (env : Env) (asked : Asked) (j k : ℕ) → AreOfOneSession env asked → asked.question ≡ questions.Product j k → IsIdealAt env j × IsIdealAt env k
-product_question env asked j k one is = both_at env j k (known env asked one).values (question_known env asked (questions.Product j k) one is)
+product_question env asked j k one is = both_at env j k (values_known env asked one) (question_known env asked (questions.Product j k) one is)
 
 -- An e and an ideal.
 small_at : (env : Env) (e j : ℕ) → AreSoundValues env → (e ≤ 12) × NamesIdeal (seen_values env.values) j → (e ≤ 12) × IsIdealAt env j
 small_at env e j vs h = (h.0, ideal_at env j vs h.1)
 
 pub power_question : (env : Env) (asked : Asked) (e j : ℕ) → AreOfOneSession env asked → asked.question ≡ questions.Power e j → (e ≤ 12) × IsIdealAt env j
-power_question env asked e j one is = small_at env e j (known env asked one).values (question_known env asked (questions.Power e j) one is)
+power_question env asked e j one is = small_at env e j (values_known env asked one) (question_known env asked (questions.Power e j) one is)
 
 pub root_question : (env : Env) (asked : Asked) (e j : ℕ) → AreOfOneSession env asked → asked.question ≡ questions.Root e j → (e ≤ 12) × IsIdealAt env j
-root_question env asked e j one is = small_at env e j (known env asked one).values (question_known env asked (questions.Root e j) one is)
+root_question env asked e j one is = small_at env e j (values_known env asked one) (question_known env asked (questions.Root e j) one is)
