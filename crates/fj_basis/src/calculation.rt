@@ -1,4 +1,4 @@
-ghost use Rattle.std.specs.Prelude.{◌≡◌, ◌≤◌, IfOk};
+ghost use Rattle.std.specs.Prelude.{◌≡◌, ◌≤◌, IfOk, length};
 ghost use Rattle.fj_theory.specs.ReducedBasis.{IsReducedBasis};
 ghost use Rattle.fj_theory.specs.Rows.{AreRows};
 ghost use Rattle.fj_theory.specs.Run.{TooHigh, Unfinished};
@@ -98,6 +98,7 @@ pub fn basis<K: Coeff, O: Order>(
 ) -> Result<Basis<K, O>, Stop>
     ensures reduced { IfOk result (λ b. IsReducedBasis K.field O.key list.now b.members) }
     ensures made { IfOk result (IsMadeOf K.field list.now) }
+    ensures long { IfOk result (λ b. length b.up ≡ length list.now) }
     ensures stop { IsStopWhere (Unfinished K.field O.key list.now pairs) (TooHigh K.field O.key list.now pairs) (order_in_row O.ROW) list.now result }
 {
     match finished(alloc, list, pairs) {
