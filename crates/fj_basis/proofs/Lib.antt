@@ -16,3 +16,6 @@ pub mod Reached
 pub mod Places
 pub mod Leading
 pub mod PendingSets
+pub mod RowBounds
+pub mod PendingPairs
+pub mod NextMember
