@@ -19,3 +19,4 @@ pub mod PendingSets
 pub mod RowBounds
 pub mod PendingPairs
 pub mod NextMember
+pub mod Turning

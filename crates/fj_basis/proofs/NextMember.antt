@@ -11,7 +11,7 @@ use Rattle.fj_theory.specs.Ideal.{ArePolynomials}
 use Rattle.fj_theory.specs.Lead.{lead_coefficient, lead_exponents, made_monic}
 use Rattle.fj_theory.specs.Rows.{IsRow, add_multiple, add_multiples}
 use Rattle.fj_theory.specs.Steps.{StepsTo}
-use Rattle.fj_theory.specs.Division.{DegreeAtMost, Division, IsDivisionStep, IsLowDivision, IsWithinSugar, Sugared, cancel_lead, degree_limit, difference, division_start, first_divisor, member_at, move_lead, polynomials_of, step_by}
+use Rattle.fj_theory.specs.Division.{DegreeAtMost, Division, IsDivisionStep, IsHighDivision, IsLowDivision, IsWithinSugar, Sugared, cancel_lead, degree_limit, difference, division_start, first_divisor, member_at, move_lead, polynomials_of, step_by}
 use Rattle.fj_theory.specs.Run.{lead_of, monic_member, pair_multiple, s_polynomial}
 use Rattle.fj_theory.proofs.Division.{IsDivision-quotients, IsDivision-remainder_polynomial}
 use Rattle.fj_theory.proofs.Exponents.{IsExponents-minus, IsExponents-origin, plus-minus, total_origin, total-plus_exponents}
@@ -191,3 +191,16 @@ module _ {K R : Type 0} {F : Field} (L : IsField F) {key : List ℕ → List ℕ
           bounded = subst₂ DegreeAtMost (sym sugar) (sym polynomial) (DegreeAtMost-made_monic L O P last.sugar some inside.remainder);
           low = let low = D.low in omega (arith, sugar, low);
         }
+
+-- A polynomial and its sugar as a member made monic.
+pub monic-is : (F : Field) (key : List ℕ → List ℕ) (g : Sugared) (f : Polynomial) (n c : ℕ) → c ≡ F.inverse (lead_coefficient key g.polynomial) → f ≡ product F (term c origin) g.polynomial
+    → n ≡ g.sugar → record { polynomial = f; sugar = n } ≡ monic_member F key g
+unfolding monic_member made_monic
+monic-is F key g f n c inverse is sugar =
+    let whole = is ∙ ap (λ d. product F (term d origin) g.polynomial) inverse in
+    λ i. record { polynomial = whole i; sugar = sugar i }
+
+-- Where the sugar is high from the start, so is the division.
+pub high-start : (F : Field) (key : List ℕ → List ℕ) (G : List Sugared) (h : Sugared) → degree_limit < h.sugar → IsHighDivision F key G h
+unfolding division_start
+high-start F key G h high = record { states = []; reached = division_start G h; steps = refl; high = high }

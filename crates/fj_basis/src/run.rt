@@ -92,12 +92,12 @@ impl<K: Coeff, O: Order> Run<K, O> {
     {
         let (s, sugar) = self.s_polynomial(alloc, pair)?;
         let division = divide_sugared(alloc, &s, sugar, &self.members)?;
-        let Some((c, _)) = division.remainder().lead() else {
+        let Some((coefficient, _)) = division.remainder().lead() else {
             return Ok(None);
         };
-        let row = self.remainder_row(alloc, pair, division.quotients())?;
-        let inverse = c.inv();
-        let row = scale_row(alloc, &row, inverse)?;
+        let inverse = coefficient.inv();
+        let cofactors = self.remainder_row(alloc, pair, division.quotients())?;
+        let row = scale_row(alloc, &cofactors, inverse)?;
         let (_, remainder, sugar) = division.into_parts();
         Ok(Some(Member {
             polynomial: remainder.scale(alloc, inverse)?,
@@ -264,10 +264,10 @@ fn first_member<K: Coeff, O: Order>(
     ensures { IfOk result (IsFirstMember K.field O.key list.now j) }
 {
     let f = &list[j];
-    let Some((c, _)) = f.lead() else {
+    let Some((coefficient, _)) = f.lead() else {
         return Ok(None);
     };
-    let inverse = c.inv();
+    let inverse = coefficient.inv();
     Ok(Some(Member {
         polynomial: f.scale(alloc, inverse)?,
         sugar: sugar_of(f),
