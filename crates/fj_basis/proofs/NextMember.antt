@@ -13,13 +13,14 @@ use Rattle.fj_theory.specs.Rows.{IsRow, add_multiple, add_multiples}
 use Rattle.fj_theory.specs.Steps.{StepsTo}
 use Rattle.fj_theory.specs.Division.{DegreeAtMost, Division, IsDivisionStep, IsHighDivision, IsLowDivision, IsWithinSugar, Sugared, cancel_lead, degree_limit, difference, division_start, first_divisor, member_at, move_lead, polynomials_of, step_by}
 use Rattle.fj_theory.specs.Run.{lead_of, monic_member, pair_multiple, s_polynomial}
+use Rattle.fj_theory.proofs.Degree.{product_nonzero}
 use Rattle.fj_theory.proofs.Division.{IsDivision-quotients, IsDivision-remainder_polynomial}
 use Rattle.fj_theory.proofs.Exponents.{IsExponents-minus, IsExponents-origin, plus-minus, total_origin, total-plus_exponents}
 use Rattle.fj_theory.proofs.Field.{one_below, zero_below}
 use Rattle.fj_theory.proofs.IdealBridge.{ArePolynomials-head, ArePolynomials-tail}
 use Rattle.fj_theory.proofs.Lead.{lead_coefficient-below, lead_coefficient-nonzero}
 use Rattle.fj_theory.proofs.Multiple.{length-least_common_multiple}
-use Rattle.fj_theory.proofs.Polynomial.{IsPolynomial-empty, IsPolynomial-term}
+use Rattle.fj_theory.proofs.Polynomial.{coefficient-empty, coefficient-term_same, IsPolynomial-empty, IsPolynomial-term}
 use Rattle.fj_theory.proofs.PolynomialRing.{sum_comm, sum_empty}
 use Rattle.fj_theory.proofs.Product.{IsPolynomial-product}
 use Rattle.fj_theory.proofs.Rows.{IsRow-add_multiple, IsRow-remainder, IsRow-zero}
@@ -30,7 +31,7 @@ use Rattle.fj_basis.specs.Members.{IsTraced, sugared, sugared_members}
 use Rattle.fj_basis.specs.State.{IsNextMember, row_at, s_polynomial_row}
 use Rattle.fj_basis.proofs.UnderWay.{member-polynomial}
 use Rattle.fj_basis.proofs.Leading.{member_is, row_at-is, AreGood, first-divides, lead-exponents, lead-total, places, row-traced, s-polynomial, s-sugar, second-divides}
-use Rattle.fj_basis.proofs.Multiples.{product_term-negation}
+use Rattle.fj_basis.proofs.Multiples.{product_term-negation, quotient_nonzero}
 use Rattle.fj_basis.proofs.RowBounds.{DegreeAtMost-add_multiple, DegreeAtMost-empty, DegreeAtMost-more, DegreeAtMost-product, DegreeAtMost-subtracted, term-positive, traced-AreRows}
 
 -- The sugar of a division doesn't fall.
@@ -204,3 +205,16 @@ monic-is F key g f n c inverse is sugar =
 pub high-start : (F : Field) (key : List ℕ → List ℕ) (G : List Sugared) (h : Sugared) → degree_limit < h.sugar → IsHighDivision F key G h
 unfolding division_start
 high-start F key G h high = record { states = []; reached = division_start G h; steps = refl; high = high }
+
+-- A polynomial made monic isn't zero.
+pub made_monic-nonzero : {F : Field} (L : IsField F) {key : List ℕ → List ℕ} (O : IsMonomialOrder key) {f : Polynomial} → IsPolynomial F f → f ≢ empty → made_monic F key f ≢ empty
+unfolding made_monic
+made_monic-nonzero {F} L {key} O {f} P some =
+    let d = lead_coefficient key f in
+    let positive = lead_coefficient-nonzero O P some in
+    let below = lead_coefficient-below O P (zero_below L) in
+    let small = L.inverse_below d positive below in
+    let quotient = quotient_nonzero L 1 d (one_below L) below (omega arith) positive in
+    let is = L.mul_comm 1 (F.inverse d) (one_below L) small ∙ L.mul_one (F.inverse d) small in
+    product_nonzero L (IsPolynomial-term (F.inverse d) small IsExponents-origin) P
+    (λ e. let zero = sym (coefficient-term_same (F.inverse d) origin) ∙ ap (λ g. coefficient g origin) e ∙ coefficient-empty origin in absurd (omega (arith, quotient, is, zero))) some

@@ -14,19 +14,36 @@ use Rattle.fj_theory.specs.Ideal.{ArePolynomials}
 use Rattle.fj_theory.specs.Division.{Division, IsHighDivision, IsLowDivision, Sugared}
 use Rattle.fj_theory.specs.Run as definition
 use Rattle.fj_theory.specs.Run.{IsHighTurn, IsNext, IsRun, IsTurn, append_member, drop_pair, dropped, has_coprime_leads, monic_member, run_start, s_polynomial, treat_pair, treated}
-use Rattle.fj_theory.proofs.Division.{same_length}
+use Rattle.fj_theory.proofs.Division.{IsDivision-remainder_polynomial, same_length}
 use Rattle.fj_theory.proofs.IdealBridge.{in_ring}
 use Rattle.fj_theory.proofs.Run.{IsRun-IsKept, nonzero}
 use Rattle.fj_basis.specs.declared.members.Member.{Member}
 use Rattle.fj_basis.specs.declared.pairs.Pair.{Pair}
 use Rattle.fj_basis.specs.declared.run.Run.{Run}
+use Rattle.fj_basis.specs.Finished.{AreMembersOfRun}
 use Rattle.fj_basis.specs.Members.{IsTraced, sugared, sugared_members}
 use Rattle.fj_basis.specs.State.{ArePending, HasPairsWith, IsAfter, IsHighNext, IsNextMember, IsPairOf}
 use Rattle.fj_basis.proofs.Gathered.{gathered_all}
-use Rattle.fj_basis.proofs.Leading.{AreGood, IsRun-AreGood}
-use Rattle.fj_basis.proofs.NextMember.{next-IsTraced}
+use Rattle.fj_basis.proofs.Leading.{AreGood, IsRun-AreGood, nonzero_members, state-good}
+use Rattle.fj_basis.proofs.NextMember.{made_monic-nonzero, next-IsTraced}
 use Rattle.fj_basis.proofs.PendingPairs.{ArePending-append, ArePending-drop, IsNext-first, order_of_pairs}
 use Rattle.fj_basis.proofs.UnderWay.{StepsTo-more}
+
+-- The members of a state.
+pub members-of : {K R : Type 0} {F : Field} {key : List ℕ → List ℕ} {N : List Polynomial} {turns : ℕ} {s : Run K R} → IsAfter F key N turns s → AreMembersOfRun F key s.members.items
+members-of {N = N} {turns = turns} after = record { list = N; given = after.given; turns = turns; state = after.state; run = after.run; are = after.members; traced = after.traced }
+
+module _ {K R : Type 0} {F : Field} (L : IsField F) {key : List ℕ → List ℕ} (O : IsMonomialOrder key) where
+  pub after-nonzero : {N : List Polynomial} {turns : ℕ} {s : Run K R} → IsAfter F key N turns s → All (λ m. m.polynomial ≢ empty) s.members.items
+  after-nonzero {s = s} after = nonzero_members s.members.items (state-good L O (members-of after)).nonzero
+
+  -- The next member isn't zero.
+  pub next-nonzero : (members : List (Member K R)) → AreMembersOfRun F key members → (i j : ℕ) (m : Member K R) → IsNextMember F key members (i, j) (Some m) → m.polynomial ≢ empty
+  unfolding monic_member
+  next-nonzero members state i j m found e =
+      let good = state-good L O state in
+      let P = IsDivision-remainder_polynomial O L (sugared_members members) good.polynomials good.nonzero (good.s_is i j) found.division.division in
+      made_monic-nonzero L O P found.found.0 (sym (ap (λ g. g.polynomial) found.found.1) ∙ e)
 
 IsRun-more : {F : Field} {key : List ℕ → List ℕ} {N : List Polynomial} {turns : ℕ} {s t : definition.Run} → IsRun F key N turns s → IsTurn F key s t → IsRun F key N (suc turns) t
 IsRun-more {F} {key} {N} {s = s} {t = t} r turn = record {

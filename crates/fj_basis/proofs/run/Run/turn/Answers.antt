@@ -1,13 +1,13 @@
 use Rattle.std.proofs.Common.{◌≡◌, ◌<◌, ◌≤◌, ◌∷◌, List, Less, All, length, refl, sym, ap, ◌∙◌, subst, arith}
 use Rattle.std.proofs.lemmas.Result.{err_from_is_err_and}
+use Rattle.fj_basis.specs.State.{IsNextMember}
 use Rattle.fj_basis.proofs.HighOnly.{only_only}
-use Rattle.fj_basis.proofs.Leading.{nonzero_members, state-good}
 use Rattle.fj_basis.proofs.PendingPairs.{order_of_pairs}
-use Rattle.fj_basis.proofs.Turning.{after-appended, after-dropped, after-empty, first-places, next-high}
+use Rattle.fj_basis.proofs.Turning.{after-appended, after-dropped, after-empty, after-nonzero, first-places, members-of, next-high, next-nonzero}
 use Rattle.fj_basis.proofs.run.Run.turn.Goals as goal
 
 pub has_coprime_leads-requires-clause-nonzero : goal.has_coprime_leads-requires-clause-nonzero
-has_coprime_leads-requires-clause-nonzero g c = ?
+has_coprime_leads-requires-clause-nonzero g c = after-nonzero g.met.K.Coeff.lawful g.met.O.Order.monomial_order c.requires.state.after
 
 pub has_coprime_leads-requires-clause-first : goal.has_coprime_leads-requires-clause-first
 has_coprime_leads-requires-clause-first g c =
@@ -49,19 +49,31 @@ returns-in_err-member-clause-high g c =
     c.in_err-member.ensures.high
 
 pub append-requires-clause-nonzero : goal.append-requires-clause-nonzero
-append-requires-clause-nonzero g c = ?
+append-requires-clause-nonzero g c = after-nonzero g.met.K.Coeff.lawful g.met.O.Order.monomial_order c.requires.state.after
 
 pub append-requires-clause-member : goal.append-requires-clause-member
-append-requires-clause-member g c = ?
+append-requires-clause-member g c =
+    let items = c.args.self.now.members.items in
+    let pair = c.unwrap-pair.result in
+    let found = subst (IsNextMember g.K.Coeff.field g.O.Order.key items (pair.i, pair.j)) c.in-Some.is c.in_ok-member.ensures.value in
+    next-nonzero g.met.K.Coeff.lawful g.met.O.Order.monomial_order items (members-of c.requires.state.after) pair.i pair.j c.in-Some.member found
 
 pub returns-in_ok-append-clause-turn : goal.returns-in_ok-append-clause-turn
 returns-in_ok-append-clause-turn g c = λ N turns after.
     let removal = rw c.unwrap-pair.ensures at c.pop_first.ensures.removal in
     let above = rw c.unwrap-pair.ensures at c.pop_first.ensures.all_above in
-    ?
+    let items = c.args.self.now.members.items in
+    let pair = c.unwrap-pair.result in
+    let found = subst (IsNextMember g.K.Coeff.field g.O.Order.key items (pair.i, pair.j)) c.in-Some.is c.in_ok-member.ensures.value in
+    after-appended g.met.K.Coeff.lawful g.met.O.Order.monomial_order after pair c.pop_first.new.self.keys removal above (sym c.has_coprime_leads.ensures ∙ c.if-has_coprime_leads.false)
+    c.append.new.self c.in-Some.member c.in_ok-append.ensures.members c.in_ok-append.ensures.pending found
 
 pub returns-in_default-clause-turn : goal.returns-in_default-clause-turn
 returns-in_default-clause-turn g c = λ N turns after.
     let removal = rw c.unwrap-pair.ensures at c.pop_first.ensures.removal in
     let above = rw c.unwrap-pair.ensures at c.pop_first.ensures.all_above in
-    ?
+    let items = c.args.self.now.members.items in
+    let pair = c.unwrap-pair.result in
+    let found = subst (IsNextMember g.K.Coeff.field g.O.Order.key items (pair.i, pair.j)) c.in_default.is c.in_ok-member.ensures.value in
+    after-empty g.met.K.Coeff.lawful g.met.O.Order.monomial_order after pair c.pop_first.new.self.keys removal above (sym c.has_coprime_leads.ensures ∙ c.if-has_coprime_leads.false)
+    _ refl refl found
