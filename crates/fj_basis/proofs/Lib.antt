@@ -20,3 +20,4 @@ pub mod RowBounds
 pub mod PendingPairs
 pub mod NextMember
 pub mod Turning
+pub mod Starting
