@@ -52,6 +52,6 @@ AreQuotients-more [] (r ∷ rows) f row all one = absurd all
 AreQuotients-more (h ∷ L) [] f row all one = absurd all
 AreQuotients-more (h ∷ L) (r ∷ rows) f row all one = (all.0, AreQuotients-more L rows f row all.1 one)
 
-pub AreQuotients-nil : {F : Field} {key : List ℕ → List ℕ} {G : List Sugared} → AreQuotients F key G [] []
+pub AreQuotients-nil : (F : Field) (key : List ℕ → List ℕ) (G : List Sugared) → AreQuotients F key G [] []
 unfolding AreQuotients
-AreQuotients-nil = tt
+AreQuotients-nil F key G = tt

@@ -33,11 +33,11 @@ unfolding with_coefficients
 without c xs e = ap (with_coefficients c) e
 
 -- A product with zero, of any maps.
-times_empty : (F : Field) (f : Polynomial) → product F f empty ≡ empty
+pub times_empty : (F : Field) (f : Polynomial) → product F f empty ≡ empty
 unfolding product
 times_empty F f = without _ _ (nothing _ (λ b. ap (map (plus b)) support_empty) (support f))
 
-empty_times : (F : Field) (g : Polynomial) → product F empty g ≡ empty
+pub empty_times : (F : Field) (g : Polynomial) → product F empty g ≡ empty
 unfolding product
 empty_times F g = without _ _ (ap (flat_map (λ b. map (plus b) (support g))) support_empty)
 
