@@ -27,8 +27,8 @@ use Rattle.fj_poly.specs.declared.fault.PolyFault.{PolyFault}
 use Rattle.fj_poly.specs.declared.fault.PolyFault.TheVariants.{High, Memory}
 use Rattle.fj_basis.specs.declared.members.Member.{Member}
 use Rattle.fj_basis.specs.Members.{sugared, sugared_members, IsRowWithin, IsTraced}
-use Rattle.fj_basis.specs.declared.run.Run.{Run}
-use Rattle.fj_basis.specs.State.{IsState, IsPairOf, row_at, s_polynomial_row}
+use Rattle.fj_basis.specs.Finished.{AreMembersOfRun}
+use Rattle.fj_basis.specs.State.{IsPairOf, row_at, s_polynomial_row}
 use Rattle.fj_basis.specs.Place.{IsWithinLimit}
 use Rattle.fj_basis.specs.declared.pairs.Pair.{Pair}
 use Rattle.fj_basis.specs.Outcome.{IsHighOnlyWhere}
@@ -121,8 +121,8 @@ module _ {F : Field} (L : IsField F) {key : List ℕ → List ℕ} (O : IsMonomi
         product_term-low L (are.each i e n) c h (IsExponents-minus M B) (member_at G k).sugar (within i e n) (omega (arith, whole, bound, low))
 
   -- The members of a state are good.
-  pub state-good : {K R : Type 0} {s : Run K R} → IsState F key s → AreGood F key (sugared_members s.members.items)
-  state-good h = subst (AreGood F key) h.after.members (IsRun-AreGood h.after.given h.after.run)
+  pub state-good : {K R : Type 0} {members : List (Member K R)} → AreMembersOfRun F key members → AreGood F key (sugared_members members)
+  state-good h = subst (AreGood F key) h.are (IsRun-AreGood h.given h.run)
 
 pub places : {K R : Type 0} (members : List (Member K R)) (k : ℕ) → k < length members → k < length (sugared_members members)
 places members k l = omega (arith, l, length-map members sugared)

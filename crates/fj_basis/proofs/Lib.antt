@@ -22,3 +22,7 @@ pub mod PrimeField
 pub mod Expressed
 pub mod MadeRows
 pub mod Stops
+pub mod PendingPairs
+pub mod NextMember
+pub mod Turning
+pub mod Starting

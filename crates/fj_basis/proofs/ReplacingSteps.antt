@@ -1,5 +1,5 @@
 -- The second act of finishing, as the code goes through it: members are replaced in turn, with their cofactors.
-use Rattle.std.proofs.Common.{◌≡◌, ◌≢◌, ℕ, ◌+◌, ◌<◌, ◌≤◌, max, Option, Some, None, List, [], ◌∷◌, ◌++◌, length, map, All, Contains, refl, sym, ap, ◌∙◌, subst, subst₂, arith}
+use Rattle.std.proofs.Common.{◌≡◌, ◌≢◌, ℕ, ◌<◌, ◌≤◌, List, [], ◌∷◌, ◌++◌, length, map, All, Contains, refl, sym, ap, ◌∙◌, subst, subst₂, arith}
 use Rattle.std.specs.FinMap.{empty}
 use Rattle.std.proofs.lemmas.List.{map-append}
 use Rattle.std.proofs.lemmas.List.Elements.{All-nil, All-push, All-head, All-tail, All-contains, All-weaker, All-map}
@@ -7,21 +7,19 @@ use Rattle.fj_coeff.specs.Field.{Field, IsField}
 use Rattle.fj_theory.specs.MonomialOrder.{IsMonomialOrder}
 use Rattle.fj_theory.specs.Polynomial.{Polynomial, IsPolynomial, negation}
 use Rattle.fj_theory.specs.Ideal.{ArePolynomials}
-use Rattle.fj_theory.specs.Lead.{lead_exponents}
 use Rattle.fj_theory.specs.Rows.{IsRow, add_multiples}
-use Rattle.fj_theory.specs.Division.{AreWithinSugars, DegreeAtMost, Division, IsDivisionStep, IsHighDivision, Sugared, cancel_lead, degree_limit, division_start, first_divisor, move_lead, polynomials_of, step_by}
+use Rattle.fj_theory.specs.Division.{AreWithinSugars, DegreeAtMost, IsHighDivision, Sugared, degree_limit, polynomials_of}
 use Rattle.fj_theory.specs.Run.{IsReplacement, IsReplacing, Replacing, kept_members, sort_by_lead}
-use Rattle.fj_theory.specs.Steps.{StepsTo}
 use Rattle.fj_theory.proofs.Division.{IsDivision-quotients}
 use Rattle.fj_theory.proofs.IdealBridge.{ArePolynomials-head}
 use Rattle.fj_theory.proofs.Lead.{nonzero-lead_coefficient}
 use Rattle.fj_theory.proofs.Replacing.{IsReplacing-AreWithinSugars, IsReplacing-monic, IsReplacing-polynomials, IsReplacing-rest_polynomials}
 use Rattle.fj_theory.proofs.Rows.{IsRow-remainder}
-use Rattle.fj_theory.proofs.Steps.{StepsTo-keeps}
 use Rattle.fj_theory.proofs.Sugar.{StepsTo-IsWithinSugar}
 use Rattle.fj_basis.specs.declared.members.Member.{Member}
 use Rattle.fj_basis.specs.Finished.{AreMembersOfRun, IsHighReplacing, IsReplacementOf}
 use Rattle.fj_basis.specs.Members.{IsRowWithin, IsTraced, sugared, sugared_members}
+use Rattle.fj_basis.proofs.NextMember.{sugar-rises}
 use Rattle.fj_basis.proofs.RowBounds.{DegreeAtMost-more, DegreeAtMost-subtracted, traced-AreRows}
 use Rattle.fj_basis.proofs.UnderWay.{StepsTo-more}
 
@@ -45,21 +43,6 @@ pub record IsReady {K O : Type 0} (F : Field) (before : List (Member K O)) (m : 
   pub bound : DegreeAtMost m.sugar m.polynomial
   pub low : m.sugar ≤ degree_limit
   pub row : ArePolynomials F m.row.items
-
--- The sugar of a division doesn't fall.
-module _ (F : Field) (key : List ℕ → List ℕ) where
-  step-rises : (G : List Sugared) (s t : Division) → IsDivisionStep F key G s t → s.sugar ≤ t.sugar
-  unfolding step_by cancel_lead move_lead
-  step-rises G s t h = by (first_divisor key G (lead_exponents key s.dividend)) h.next
-    where
-      by : (o : Option ℕ) → t ≡ step_by F key G o s → s.sugar ≤ t.sugar
-      by None e = let is = ap (λ d. d.sugar) e in omega (arith, is)
-      by (Some k) e = let is = ap (λ d. d.sugar) e in omega (arith, is)
-
-  rises : (G : List Sugared) (h : Sugared) (states : List Division) (last : Division) → StepsTo (IsDivisionStep F key G) (division_start G h) states last → h.sugar ≤ last.sugar
-  unfolding division_start
-  rises G h states last steps =
-      StepsTo-keeps (IsDivisionStep F key G) (λ d. h.sugar ≤ d.sugar) (λ s t step l. let more = step-rises G s t step in omega (arith, more, l)) states (division_start G h) last steps (omega arith)
 
 module _ {K O : Type 0} (F : Field) (key : List ℕ → List ℕ) where
   -- None is replaced at first.
@@ -108,7 +91,7 @@ module _ {K O : Type 0} {F : Field} (L : IsField F) {key : List ℕ → List ℕ
       let D = h.division.division in
       let Q = IsDivision-quotients R L G divisors.polynomials divisors.nonzero {h = sugared m} H D in
       let inside = StepsTo-IsWithinSugar R L G divisors.polynomials divisors.nonzero divisors.within (sugared m) H t.bounded D.states h.last D.steps in
-      let more = rises F key G (sugared m) D.states h.last D.steps in
+      let more = sugar-rises G (sugared m) D.states h.last D.steps in
       let low = h.division.low in
       let sugar = h.sugar in
       record {

@@ -1,5 +1,5 @@
 -- The state of a run as the code keeps it.
-use Rattle.std.specs.Prelude.{◌≡◌, ◌≢◌, ◌⊎◌, ℕ, ◌<◌, ◌≤◌, List, [], map, length, replicate, slice_index_or, All, Contains, Option, MatchOption}
+use Rattle.std.specs.Prelude.{◌≡◌, ◌≢◌, ◌⊎◌, ℕ, ◌<◌, ◌≤◌, List, [], map, length, replicate, set, slice_index_or, All, Contains, Option, MatchOption}
 use Rattle.std.specs.FinMap.{empty}
 use Rattle.fj_coeff.specs.Field.{Field}
 use Rattle.fj_theory.specs.Exponents.{origin, minus}
@@ -7,7 +7,7 @@ use Rattle.fj_theory.specs.Polynomial.{Polynomial, negation, product, term}
 use Rattle.fj_theory.specs.Lead.{lead_coefficient}
 use Rattle.fj_theory.specs.Rows.{add_multiple, add_multiples}
 use Rattle.fj_theory.specs.Ideal.{ArePolynomials}
-use Rattle.fj_theory.specs.Division.{Sugared, Division, IsLowDivision}
+use Rattle.fj_theory.specs.Division.{Sugared, Division, IsLowDivision, degree_limit}
 use Rattle.fj_theory.specs.Run as definition
 use Rattle.fj_basis.specs.declared.pairs.Pair.{Pair}
 use Rattle.fj_basis.specs.declared.members.Member.{Member}
@@ -62,6 +62,13 @@ pub record IsNextMember {K O : Type 0} (F : Field) (key : List ℕ → List ℕ)
       (last.remainder ≢ empty) × (sugared m ≡ definition.monic_member F key (record { polynomial = last.remainder; sugar = last.sugar }))
       × (m.row.items ≡ map (product F (term (F.inverse (lead_coefficient key last.remainder)) origin)) (s_polynomial_row F key members (replicate (length (row_at members pair.0)) empty) pair last.quotients)))
 
+-- The member that the polynomial at a place of L gives, if it is not zero: it is made monic, and its one cofactor is the
+-- inverse of its leading coefficient.
+pub record IsFirstMember {K O : Type 0} (F : Field) (key : List ℕ → List ℕ) (L : List Polynomial) (j : ℕ) (first : Option (Member K O)) : Type 0 where
+  pub found : MatchOption first (slice_index_or L j empty ≡ empty) (λ m.
+      (slice_index_or L j empty ≢ empty) × (sugared m ≡ definition.monic_member F key (definition.given (slice_index_or L j empty))) × (m.sugar ≤ degree_limit)
+      × (m.row.items ≡ set (replicate (length L) empty) j (term (F.inverse (lead_coefficient key (slice_index_or L j empty))) origin)))
+
 -- Some run, after some turns.
 pub record IsState {K O : Type 0} (F : Field) (key : List ℕ → List ℕ) (s : Run K O) : Type 0 where
   pub list : List Polynomial
@@ -70,10 +77,7 @@ pub record IsState {K O : Type 0} (F : Field) (key : List ℕ → List ℕ) (s :
 
 -- In the next turn a sugar above the limit arises.
 pub record IsHighNext {K O : Type 0} (F : Field) (key : List ℕ → List ℕ) (s : Run K O) : Type 0 where
-  pub state : definition.Run
-  pub members : state.members ≡ sugared_members s.members.items
-  pub pending : ArePending key state s.pending.keys
-  pub high : definition.IsHighTurn F key state
+  pub high : (L : List Polynomial) (turns : ℕ) (after : IsAfter F key L turns s) → definition.IsHighTurn F key after.state
 
 -- The run on L is finished with these members within the budget, and no pair is pending.
 pub record IsEnded {K O : Type 0} (F : Field) (key : List ℕ → List ℕ) (L : List Polynomial) (budget : ℕ) (s : Run K O) : Type 0 where

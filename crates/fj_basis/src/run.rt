@@ -6,14 +6,16 @@ ghost use Rattle.fj_theory.specs.Polynomial.{Polynomial, product, term};
 ghost use Rattle.fj_theory.specs.Rows.{add_multiple};
 ghost use Rattle.fj_theory.specs.Division.{IsHighDivision, degree_limit, member_at};
 ghost use Rattle.fj_theory.specs.Run.{are_coprime, has_coprime_leads, lead_of, pair_multiple, s_polynomial};
+ghost use Rattle.fj_basis.specs.Finished.{AreMembersOfRun};
 ghost use Rattle.fj_basis.specs.Members.{sugared_members};
 ghost use Rattle.fj_basis.specs.Outcome.{IsHighOnlyWhere};
 ghost use Rattle.fj_basis.specs.Quotients.{AreQuotientsWithin};
-ghost use Rattle.fj_basis.specs.State.{HasPairsWith, IsAfter, IsHighNext, IsNextMember, IsPairOf, IsState, row_at, s_polynomial_row};
+ghost use Rattle.fj_basis.specs.State.{HasPairsWith, IsAfter, IsFirstMember, IsHighNext, IsNextMember, IsPairOf, IsState, row_at, s_polynomial_row};
 
 use crate::cofactors::{add_multiple, row_of_one, scale_row, subtract_multiples, zero_row};
 use crate::division::divide_sugared;
 use crate::divisor::Divisor;
+use crate::handed::{look_over, sugar_of};
 use crate::members::{Member, Row};
 use crate::pairs::Pair;
 use fj_coeff::Coeff;
@@ -34,18 +36,14 @@ impl<K: Coeff, O: Order> Run<K, O> {
     pub(crate) fn start(alloc: Global, list: &[Poly<K, O>]) -> Result<Run<K, O>, AllocError>
         ensures { IfOk result (IsAfter K.field O.key list.now 0) }
     {
+        look_over(list);
         let mut run = Run {
             members: Vec::new(alloc),
             pending: BTreeSet::new(alloc),
         };
         for j in 0..list.len() {
-            if let Some((c, _)) = list[j].lead() {
-                let inverse = c.inv();
-                run.append(Member {
-                    polynomial: list[j].scale(alloc, inverse)?,
-                    sugar: list[j].sugar(),
-                    row: row_of_one(alloc, inverse, j, list.len())?,
-                })?;
+            if let Some(member) = first_member(alloc, list, j)? {
+                run.append(member)?;
             }
         }
         Ok(run)
@@ -77,16 +75,15 @@ impl<K: Coeff, O: Order> Run<K, O> {
         if self.has_coprime_leads(&pair) {
             return Ok(());
         }
-        match self.next_member(alloc, &pair)? {
-            Some(member) => self.append(member)?,
-            None => {}
+        if let Some(member) = self.next_member(alloc, &pair)? {
+            self.append(member)?;
         }
         Ok(())
     }
 
     // The member that the pair gives, if the remainder of its S-polynomial isn't zero.
     fn next_member(&self, alloc: Global, pair: &Pair<O>) -> Result<Option<Member<K, O>>, PolyFault>
-        requires state { IsState K.field O.key self.now }
+        requires state { AreMembersOfRun K.field O.key self.now.members.items }
         requires pair { IsPairOf O.key (sugared_members self.now.members.items) pair.now }
         requires first { pair.now.i < pair.now.j }
         requires second { pair.now.j < length self.now.members.items }
@@ -95,12 +92,12 @@ impl<K: Coeff, O: Order> Run<K, O> {
     {
         let (s, sugar) = self.s_polynomial(alloc, pair)?;
         let division = divide_sugared(alloc, &s, sugar, &self.members)?;
-        let Some((c, _)) = division.remainder().lead() else {
+        let Some((coefficient, _)) = division.remainder().lead() else {
             return Ok(None);
         };
-        let row = self.remainder_row(alloc, pair, division.quotients())?;
-        let inverse = c.inv();
-        let row = scale_row(alloc, &row, inverse)?;
+        let inverse = coefficient.inv();
+        let cofactors = self.remainder_row(alloc, pair, division.quotients())?;
+        let row = scale_row(alloc, &cofactors, inverse)?;
         let (_, remainder, sugar) = division.into_parts();
         Ok(Some(Member {
             polynomial: remainder.scale(alloc, inverse)?,
@@ -140,7 +137,7 @@ impl<K: Coeff, O: Order> Run<K, O> {
 
     // The S-polynomial of a pair, with its sugar.
     fn s_polynomial(&self, alloc: Global, pair: &Pair<O>) -> Result<(Poly<K, O>, u64), PolyFault>
-        requires state { IsState K.field O.key self.now }
+        requires state { AreMembersOfRun K.field O.key self.now.members.items }
         requires pair { IsPairOf O.key (sugared_members self.now.members.items) pair.now }
         requires first { pair.now.i < length self.now.members.items }
         requires second { pair.now.j < length self.now.members.items }
@@ -174,7 +171,7 @@ impl<K: Coeff, O: Order> Run<K, O> {
 
     // The multiple of a member whose lead is the monomial.
     fn multiple_of(&self, alloc: Global, k: usize, m: &Mono) -> Result<Poly<K, O>, PolyFault>
-        requires state { IsState K.field O.key self.now }
+        requires state { AreMembersOfRun K.field O.key self.now.members.items }
         requires place { k < length self.now.members.items }
         requires divisor { IsTrue (divides (lead_of O.key (sugared_members self.now.members.items) k) m.now.exponents) }
         requires low { (member_at (sugared_members self.now.members.items) k).sugar - total (lead_of O.key (sugared_members self.now.members.items) k) + total m.now.exponents ≤ degree_limit }
@@ -192,7 +189,7 @@ impl<K: Coeff, O: Order> Run<K, O> {
         pair: &Pair<O>,
         quotients: &[Poly<K, O>],
     ) -> Result<Row<K, O>, PolyFault>
-        requires state { IsState K.field O.key self.now }
+        requires state { AreMembersOfRun K.field O.key self.now.members.items }
         requires pair { IsPairOf O.key (sugared_members self.now.members.items) pair.now }
         requires first { pair.now.i < pair.now.j }
         requires second { pair.now.j < length self.now.members.items }
@@ -216,7 +213,7 @@ impl<K: Coeff, O: Order> Run<K, O> {
         multiple: &Mono,
         quotients: &[Poly<K, O>],
     ) -> Result<(), PolyFault>
-        requires state { IsState K.field O.key self.now }
+        requires state { AreMembersOfRun K.field O.key self.now.members.items }
         requires first { pair.now.i < pair.now.j }
         requires second { pair.now.j < length self.now.members.items }
         requires multiple { multiple.now.exponents ≡ pair_multiple O.key (sugared_members self.now.members.items) (pair.now.i, pair.now.j) }
@@ -241,7 +238,7 @@ impl<K: Coeff, O: Order> Run<K, O> {
         k: usize,
         m: &Mono,
     ) -> Result<(), PolyFault>
-        requires state { IsState K.field O.key self.now }
+        requires state { AreMembersOfRun K.field O.key self.now.members.items }
         requires place { k < length self.now.members.items }
         requires divisor { IsTrue (divides (lead_of O.key (sugared_members self.now.members.items) k) m.now.exponents) }
         requires low { (member_at (sugared_members self.now.members.items) k).sugar - total (lead_of O.key (sugared_members self.now.members.items) k) + total m.now.exponents ≤ degree_limit }
@@ -254,6 +251,28 @@ impl<K: Coeff, O: Order> Run<K, O> {
         let factor = Poly::term(alloc, c, &monomial)?;
         add_multiple(alloc, row, &factor, &self.members[k].row)
     }
+}
+
+// The member that the polynomial at place j of the list gives, if it isn't zero.
+fn first_member<K: Coeff, O: Order>(
+    alloc: Global,
+    list: &[Poly<K, O>],
+    j: usize,
+) -> Result<Option<Member<K, O>>, AllocError>
+    requires list { ArePolynomials K.field list.now }
+    requires place { j < length list.now }
+    ensures { IfOk result (IsFirstMember K.field O.key list.now j) }
+{
+    let f = &list[j];
+    let Some((coefficient, _)) = f.lead() else {
+        return Ok(None);
+    };
+    let inverse = coefficient.inv();
+    Ok(Some(Member {
+        polynomial: f.scale(alloc, inverse)?,
+        sugar: sugar_of(f),
+        row: row_of_one(alloc, inverse, j, list.len())?,
+    }))
 }
 
 // Whether two monomials have no variable in common.

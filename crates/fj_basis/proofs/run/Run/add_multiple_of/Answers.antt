@@ -30,7 +30,7 @@ add_multiple-requires-clause-within g c =
     let O = g.met.O.Order.monomial_order in
     let items = c.args.self.now.members.items in
     let good = state-good L O c.requires.state in
-    let traced = traced_at items c.requires.state.after.traced c.args.k c.index-2.result.now c.requires.place c.index-2.ensures in
+    let traced = traced_at items c.requires.state.traced c.args.k c.index-2.result.now c.requires.place c.index-2.ensures in
     let factor = c.quot-monomial.ensures ∙ ap (minus c.args.m.now.exponents) (c.lead.ensures ∙ sym (lead_of-is g.O.Order.key items c.args.k c.index.result.now c.requires.place c.index.ensures)) in
     let is = c.in_ok-factor.ensures.value ∙ ap (term (g.K.Coeff.rank c.args.c)) factor in
     let low = row-low L O (sugared_members items) good c.args.k (places items c.args.k c.requires.place) c.args.m.now.exponents (record { eight = c.args.m.now.eight }) c.requires.divisor c.requires.low
