@@ -84,8 +84,8 @@ pub map-range-more : {X : Type 0} (f : ℕ → X) (n : ℕ) → map f (range_wit
 map-range-more f n =
     let xs = map f (range_with_len 0 (n + 1)) in
     let long = length-map-range_with_len f 0 (n + 1) in
-    sym (take_all xs (suc n) (omega (arith, long))) ∙ take-suc xs n (f n) (omega (arith, long))
-    ∙ ap₂ (λ ys y. ys ++ (y ∷ [])) (take-map-range_with_len f 0 (n + 1) n (omega arith)) (get_or-map-range_with_len f 0 (n + 1) n n (f n) (omega arith) refl)
+    sym (take_all (suc n) xs (omega (arith, long))) ∙ take-suc xs n (f n) (omega (arith, long))
+    ∙ ap₂ (λ ys y. ys ++ (y ∷ [])) (take-map-range_with_len f 0 (n + 1) n (omega arith)) (get_or-map-range_with_len f 0 (n + 1) n n (f n) (omega arith) (omega arith))
 
 module _ (key : List ℕ → List ℕ) (G : List Sugared) where
   -- The kept members from the place n on.

@@ -219,7 +219,7 @@ length-added_row F f [] ys = refl
 length-added_row F f (x ∷ xs) [] = refl
 length-added_row F f (x ∷ xs) (y ∷ ys) = ap suc (length-added_row F f xs ys)
 
-length-added_rows : (F : Field) (fs : List Polynomial) (rows : List (List Polynomial)) (first : List Polynomial) → length (add_multiples F fs rows first) ≡ length first
+pub length-added_rows : (F : Field) (fs : List Polynomial) (rows : List (List Polynomial)) (first : List Polynomial) → length (add_multiples F fs rows first) ≡ length first
 unfolding add_multiples
 length-added_rows F [] rows first = refl
 length-added_rows F (f ∷ fs) [] first = refl

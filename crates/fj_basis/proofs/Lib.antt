@@ -5,6 +5,7 @@ pub mod Faults
 pub mod FirstDivisor
 pub mod Gathered
 pub mod Rows
+pub mod RowBounds
 pub mod Subtracted
 pub mod HighOnly
 pub mod FinishingActs
@@ -16,7 +17,11 @@ pub mod Reached
 pub mod Places
 pub mod Leading
 pub mod PendingSets
-pub mod RowBounds
+pub mod ReplacingSteps
+pub mod PrimeField
+pub mod Expressed
+pub mod MadeRows
+pub mod Stops
 pub mod PendingPairs
 pub mod NextMember
 pub mod Turning

@@ -1,10 +1,12 @@
+ghost use Rattle.std.specs.Prelude.{◌≡◌};
+
 use crate::calculation::basis;
 use crate::division::divide;
 use crate::stop::Stop;
 use crate::types::Basis;
 use fj_coeff::{Coeff, Fp};
 use fj_mono::{Elim, Grevlex, Grlex, Lex, Mono, Order};
-use fj_plain::{OrderName, holds};
+use fj_plain::{Kept, OrderName, PlainPoly, holds};
 use fj_poly::{Poly, PolyFault};
 use std::alloc::{AllocError, Global};
 use std::process::Abort;
@@ -64,22 +66,62 @@ struct Row<'a> {
 }
 
 // The run stops one turn before, with the list, and answers with these turns.
-fn answers<K: Coeff, O: Order>(rt: &impl Abort, alloc: Global, row: &Row) -> Result<(), Fail> {
+fn answers<K: Coeff, O: Order>(rt: &impl Abort, alloc: Global, row: &Row) -> Result<(), Fail>
+    requires { K.SIZE ≡ K.P }
+{
     let given: Vec<Poly<K, O>> = list(rt, alloc, row.given)?;
     let wanted: Vec<Poly<K, O>> = list(rt, alloc, row.basis)?;
+    let given = given.as_slice();
     if row.turns > 0 {
-        match basis(alloc, &given, row.turns - 1) {
-            Err(Stop::Pairs(kept)) => {
-                assert_eq!(rt; kept.list.len(), given.len());
-                assert!(rt; kept.order == OrderName::of(O::ROW));
-            }
-            _ => assert!(rt; false, "one turn too few"),
+        stops(rt, alloc, given, row.turns - 1)?;
+    }
+    let found = basis(alloc, given, row.turns)?;
+    same_lists(rt, found.members(), &wanted);
+    let cert = found.cert(alloc, given)?;
+    assert!(rt; holds(alloc, &cert)?);
+    Ok(())
+}
+
+// With so many turns the run stops, and keeps its list.
+fn stops<K: Coeff, O: Order>(
+    rt: &impl Abort,
+    alloc: Global,
+    given: &[Poly<K, O>],
+    turns: u64,
+) -> Result<(), Fail> {
+    match basis(alloc, given, turns) {
+        Err(Stop::Pairs(kept)) => is_kept(rt, alloc, &kept, given),
+        _ => {
+            assert!(rt; false, "too few turns");
+            Ok(())
         }
     }
-    let found = basis(alloc, &given, row.turns)?;
-    same_lists(rt, found.members(), &wanted);
-    assert!(rt; holds(alloc, &found.cert(alloc, &given)?)?);
+}
+
+fn is_kept<K: Coeff, O: Order>(
+    rt: &impl Abort,
+    alloc: Global,
+    kept: &Kept,
+    given: &[Poly<K, O>],
+) -> Result<(), Fail> {
+    assert!(rt; kept.order == OrderName::of(O::ROW));
+    assert_eq!(rt; kept.list.len(), given.len());
+    for (i, f) in given.iter().enumerate() {
+        if i < kept.list.len() {
+            same_terms(rt, kept.list.get(i), &f.to_plain(alloc)?);
+        }
+    }
     Ok(())
+}
+
+fn same_terms(rt: &impl Abort, f: &PlainPoly, g: &PlainPoly) {
+    assert_eq!(rt; f.len(), g.len());
+    for i in 0..f.len() {
+        if i < g.len() {
+            assert_eq!(rt; f.get(i).exps, g.get(i).exps);
+            assert_eq!(rt; f.get(i).rank, g.get(i).rank);
+        }
+    }
 }
 
 fn same_lists<K: Coeff, O: Order>(rt: &impl Abort, a: &[Poly<K, O>], b: &[Poly<K, O>]) {
@@ -125,6 +167,25 @@ fn orders(rt: HostRuntime) -> Result<(), Fail> {
         ],
     };
     answers::<Fp<2>, Elim>(&rt, alloc, &eliminating)
+}
+
+// Over GF(2) in Grevlex the run on x^2 + y and x*y + 1 needs three turns. The certificate of the basis is true.
+#[test]
+fn budgets(rt: HostRuntime) -> Result<(), Fail> {
+    let alloc = rt.alloc();
+    let first: &[Entry] = &[([2, 0, 0, 0], 1), ([0, 1, 0, 0], 1)];
+    let second: &[Entry] = &[([1, 1, 0, 0], 1), ([0, 0, 0, 0], 1)];
+    let third: &[Entry] = &[([0, 2, 0, 0], 1), ([1, 0, 0, 0], 1)];
+    let given: Vec<Poly<Fp<2>, Grevlex>> = list(&rt, alloc, &[first, second])?;
+    let given = given.as_slice();
+    stops(&rt, alloc, given, 1)?;
+    stops(&rt, alloc, given, 2)?;
+    let found = basis(alloc, given, 3)?;
+    let wanted: Vec<Poly<Fp<2>, Grevlex>> = list(&rt, alloc, &[third, second, first])?;
+    same_lists(&rt, found.members(), &wanted);
+    let cert = found.cert(alloc, given)?;
+    assert!(rt; holds(alloc, &cert)?);
+    Ok(())
 }
 
 // Lists of one member and of none, with zeros, repeated members, equal leads and a constant.
@@ -269,7 +330,9 @@ fn cofactors(rt: HostRuntime) -> Result<(), Fail> {
         alloc,
         &[&[([1, 0, 0, 0], 1), ([0, 1, 0, 0], 1)], X],
     )?;
-    let found: Basis<Fp<2>, Grevlex> = basis(alloc, &given, 3)?;
+    let given = given.as_slice();
+    assert_eq!(rt; given.len(), 2);
+    let found: Basis<Fp<2>, Grevlex> = basis(alloc, given, 3)?;
     let one: Poly<Fp<2>, Grevlex> = poly(&rt, alloc, ONE)?;
     assert_eq!(rt; found.members().len(), 2);
     assert!(rt; found.down(0, 0).same(&one));

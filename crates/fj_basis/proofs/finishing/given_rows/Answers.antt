@@ -11,7 +11,8 @@ use Rattle.fj_basis.proofs.FinishingRows.{AreQuotients-more, AreQuotients-nil}
 use Rattle.fj_basis.proofs.finishing.given_rows.Goals as goal
 
 pub loop-f-init : goal.loop-f-init
-loop-f-init g c = subst (λ rows. AreQuotients g.K.Coeff.field g.O.Order.key (sugared_members c.args.basis.now) [] (map (λ row. row.items) rows)) (sym c.in_ok-rows.ensures.items) AreQuotients-nil
+loop-f-init g c = subst (λ rows. AreQuotients g.K.Coeff.field g.O.Order.key (sugared_members c.args.basis.now) [] (map (λ row. row.items) rows)) (sym c.in_ok-rows.ensures.items)
+    (AreQuotients-nil g.K.Coeff.field g.O.Order.key (sugared_members c.args.basis.now))
 
 pub returns-in_err-row-clause-high : goal.returns-in_err-row-clause-high
 returns-in_err-row-clause-high g c =

@@ -5,11 +5,11 @@ use Rattle.fj_basis.proofs.FinishingActs.{kept_from}
 use Rattle.fj_basis.proofs.finishing.sorted_by_lead.Given as goal
 
 -- those that left the end of the list are sorted, but for what is left out
-abbrev pub invariant-loop-members : goal.invariant-loop-members
-invariant-loop-members g l =
+abbrev pub invariant-loop-member : goal.invariant-loop-member
+invariant-loop-member g l =
     (l.members.items ≡ take (length l.members.items) l.fn.members.items) × (length l.members.items ≤ length l.fn.members.items)
     × (sugared_members l.sorted.items ≡ sort_by_lead g.O.Order.key (kept_from g.O.Order.key (sugared_members l.fn.members.items) (length l.members.items)))
     × All (Contains l.fn.members.items) l.sorted.items
 
-abbrev pub decreases-loop-members : goal.decreases-loop-members
-decreases-loop-members g l = length l.members.items
+abbrev pub decreases-loop-member : goal.decreases-loop-member
+decreases-loop-member g l = length l.members.items
