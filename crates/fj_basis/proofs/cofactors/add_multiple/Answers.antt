@@ -14,7 +14,7 @@ loop-j-preserved g c =
     let F = g.K.Coeff.field in
     let within : c.loop-j.j < length c.args.row.now = c.loop-j-test.true in
     elim c.if-not-is_zero.branch [
-      then-not-is_zero+in_ok-mul+in_ok-row w ↦
+      | then-not-is_zero+in_ok-mul+in_ok-row w ↦
           added-more F c.args.f.now c.loop-j.j c.args.row.now c.args.other.now c.loop-j.row c.if-not-is_zero.row w.index-row-j.result w.index-other-j-then-not-is_zero.result w.in_ok-row.field-0
           within c.requires.long c.loop-j.invariant
           (w.in_ok-row.ensures.value ∙ ap (sum F (get_or c.loop-j.row c.loop-j.j w.index-row-j.result)) (w.in_ok-mul.ensures.value ∙ ap (product F c.args.f.now) w.index-other-j-then-not-is_zero.is)) w.row-is

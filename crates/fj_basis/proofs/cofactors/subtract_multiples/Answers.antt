@@ -50,7 +50,7 @@ loop-k-preserved g c =
     let inside : c.loop-k.k < length c.args.members.now = omega (arith, c.loop-k-test.true, c.requires.quotients.long, long) in
     let even : length (map (λ m. m.row.items) c.args.members.now) ≡ length c.args.quotients.now = omega (arith, c.requires.quotients.long, long, rows_long) in
     elim c.if-not-is_zero.branch [
-      then-not-is_zero+in_ok-factor+in_ok-add_multiple w ↦
+      | then-not-is_zero+in_ok-factor+in_ok-add_multiple w ↦
           let q = w.index-quotients-k-then-not-is_zero.result in
           let factor : w.in_ok-factor.factor ≡ negation F q =
           w.in_ok-factor.ensures.value ∙ ap (λ n. product F (term n origin) q) (c.neg-minus_one.ensures ∙ ap F.neg c.one.ensures) ∙ scale-negation L w.in_ok-factor.ensures.factor in
@@ -58,8 +58,8 @@ loop-k-preserved g c =
           let changed : c.if-not-is_zero.row ≡ add_multiple F (negation F q) c.loop-k.row own =
           w.row-is ∙ w.in_ok-add_multiple.ensures.value ∙ ap₂ (λ f ys. add_multiple F f c.loop-k.row ys) factor w.deref.ensures.value in (
             changed
-            ∙ subtracted-more L c.args.quotients.now (map (λ m. m.row.items) c.args.members.now) c.args.row.now c.loop-k.k c.loop-k.row q own c.loop-k-test.true even
-            w.index-quotients-k-then-not-is_zero.is (sym (get_or-map (λ m. m.row.items) c.args.members.now c.loop-k.k w.index-members-k.result [] inside)) c.loop-k.invariant.0,
+                ∙ subtracted-more L c.args.quotients.now (map (λ m. m.row.items) c.args.members.now) c.args.row.now c.loop-k.k c.loop-k.row q own c.loop-k-test.true even
+                w.index-quotients-k-then-not-is_zero.is (sym (get_or-map (λ m. m.row.items) c.args.members.now c.loop-k.k w.index-members-k.result [] inside)) c.loop-k.invariant.0,
             subst (ArePolynomials F) (sym changed)
                 (ArePolynomials-add_multiple L (IsPolynomial-negation L w.in_ok-factor.ensures.factor) c.loop-k.row own c.loop-k.invariant.1
                 (c.requires.rows c.loop-k.k w.index-members-k.result inside).polynomials),

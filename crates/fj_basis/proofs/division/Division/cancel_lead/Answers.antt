@@ -80,24 +80,28 @@ invariant_of-self g c =
     let parts = lead-parts g.O.Order.key c.args.g.now _ (sym (rw c.unwrap-d.ensures at c.lead.ensures.lead)) in
     let F = g.K.Coeff.field in
     let now : c.in_ok-self-inside.field-0 ≡ sum F c.self.inside.left
-        (product F (term (F.neg (F.mul (g.K.Coeff.rank c.args.c) (F.inverse (lead_coefficient g.O.Order.key c.args.g.now)))) (minus c.args.m.now.exponents (lead_exponents g.O.Order.key c.args.g.now))) c.args.g.now) =
-    cc (c.in_ok-self-inside.ensures.value, c.in_ok-multiple.ensures.value, c.in_ok-term.ensures.value, parts.0, parts.1) in
-    (subst (λ f. c.self.inside.moved ≤ len f) (sym now)
-    (seen-within g.met.K.Coeff.lawful g.met.O.Order.monomial_order c.self.invariant.1 c.self.inside.moved
-    (place_inside g.met.K.Coeff.lawful g.met.O.Order.monomial_order c.self.invariant.1 c.self.inside.moved c.args.self.now (ap (λ d. d.dividend) c.self.view_is) c.requires.lead)
-    [] 0 (ap (λ d. lead g.O.Order.key d.dividend) c.self.view_is ∙ c.requires.lead) c.lead.ensures.polynomial c.requires.nonzero c.requires.divisor), c.in_ok-self-inside.ensures.polynomial)
+    (product F (term (F.neg (F.mul (g.K.Coeff.rank c.args.c) (F.inverse (lead_coefficient g.O.Order.key c.args.g.now)))) (minus c.args.m.now.exponents (lead_exponents g.O.Order.key c.args.g.now))) c.args.g.now) =
+    cc (c.in_ok-self-inside.ensures.value, c.in_ok-multiple.ensures.value, c.in_ok-term.ensures.value, parts.0, parts.1) in (
+      subst (λ f. c.self.inside.moved ≤ len f) (sym now)
+          (seen-within g.met.K.Coeff.lawful g.met.O.Order.monomial_order c.self.invariant.1 c.self.inside.moved
+          (place_inside g.met.K.Coeff.lawful g.met.O.Order.monomial_order c.self.invariant.1 c.self.inside.moved c.args.self.now (ap (λ d. d.dividend) c.self.view_is) c.requires.lead)
+          [] 0 (ap (λ d. lead g.O.Order.key d.dividend) c.self.view_is ∙ c.requires.lead) c.lead.ensures.polynomial c.requires.nonzero c.requires.divisor),
+      c.in_ok-self-inside.ensures.polynomial,
+    )
 
 pub invariant_of-self-2 : goal.invariant_of-self-2
 invariant_of-self-2 g c =
     let parts = lead-parts g.O.Order.key c.args.g.now _ (sym (rw c.unwrap-d.ensures at c.lead.ensures.lead)) in
     let F = g.K.Coeff.field in
     let now : c.in_ok-self-inside.field-0 ≡ sum F c.self.inside.left
-        (product F (term (F.neg (F.mul (g.K.Coeff.rank c.args.c) (F.inverse (lead_coefficient g.O.Order.key c.args.g.now)))) (minus c.args.m.now.exponents (lead_exponents g.O.Order.key c.args.g.now))) c.args.g.now) =
-    cc (c.in_ok-self-inside.ensures.value, c.in_ok-multiple.ensures.value, c.in_ok-term.ensures.value, parts.0, parts.1) in
-    (subst (λ f. c.self.inside.moved ≤ len f) (sym now)
-    (seen-within g.met.K.Coeff.lawful g.met.O.Order.monomial_order c.self.invariant.1 c.self.inside.moved
-    (place_inside g.met.K.Coeff.lawful g.met.O.Order.monomial_order c.self.invariant.1 c.self.inside.moved c.args.self.now (ap (λ d. d.dividend) c.self.view_is) c.requires.lead)
-    [] 0 (ap (λ d. lead g.O.Order.key d.dividend) c.self.view_is ∙ c.requires.lead) c.lead.ensures.polynomial c.requires.nonzero c.requires.divisor), c.in_ok-self-inside.ensures.polynomial)
+    (product F (term (F.neg (F.mul (g.K.Coeff.rank c.args.c) (F.inverse (lead_coefficient g.O.Order.key c.args.g.now)))) (minus c.args.m.now.exponents (lead_exponents g.O.Order.key c.args.g.now))) c.args.g.now) =
+    cc (c.in_ok-self-inside.ensures.value, c.in_ok-multiple.ensures.value, c.in_ok-term.ensures.value, parts.0, parts.1) in (
+      subst (λ f. c.self.inside.moved ≤ len f) (sym now)
+          (seen-within g.met.K.Coeff.lawful g.met.O.Order.monomial_order c.self.invariant.1 c.self.inside.moved
+          (place_inside g.met.K.Coeff.lawful g.met.O.Order.monomial_order c.self.invariant.1 c.self.inside.moved c.args.self.now (ap (λ d. d.dividend) c.self.view_is) c.requires.lead)
+          [] 0 (ap (λ d. lead g.O.Order.key d.dividend) c.self.view_is ∙ c.requires.lead) c.lead.ensures.polynomial c.requires.nonzero c.requires.divisor),
+      c.in_ok-self-inside.ensures.polynomial,
+    )
 
 pub returns-clause-value : goal.returns-clause-value
 returns-clause-value g c =

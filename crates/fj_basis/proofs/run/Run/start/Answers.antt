@@ -26,7 +26,7 @@ loop-j-preserved g c =
     let A = c.look_over.ensures in
     let l = c.loop-j-test.true in
     elim c.match-branch-2.branch [
-      in-Some+in_ok-append w ↦
+      | in-Some+in_ok-append w ↦
           (let first = subst (IsFirstMember F key list j) w.in-Some.is c.in_ok-member.ensures in
           let m = w.in-Some.member in
           let traced = first-IsTraced list L O A j l m first.found.0 first.found.1 first.found.2 first.found.3 in
