@@ -154,12 +154,12 @@ module _ {K O : Type 0} {F : Field} (L : IsField F) {key : List ℕ → List ℕ
     pub ended-up : AreRows F (polynomials_of (sugared_members basis)) M rows
     ended-up = AreQuotients-AreRows L R ended.after.given (sugared_members basis) ended-AreDivisors reduced M rows ended.after.given (Member-elements L ended.after.given) quotients
 
+    pub ended-IsReducedBasis : {fs : List Polynomial} → fs ≡ map (λ m. m.polynomial) basis → IsReducedBasis F key M fs
+    ended-IsReducedBasis e = subst (IsReducedBasis F key M) (polynomials-sugared basis ∙ sym e) reduced
+
     module _ {b : WithCofactors} (members_are : b.members ≡ map (λ m. m.polynomial) basis) where
       pub ended-IsResult : IsResult F key M budget b
       ended-IsResult = record { basis = sugared_members basis; finished = ended-IsFinished; members = polynomials-sugared basis ∙ sym members_are }
-
-      pub ended-IsReducedBasis : IsReducedBasis F key M b.members
-      ended-IsReducedBasis = subst (IsReducedBasis F key M) (polynomials-sugared basis ∙ sym members_are) reduced
 
       pub ended-IsMadeOf : All (IsTraced F M) basis → b.down ≡ map (λ m. m.row.items) basis → b.up ≡ rows → IsMadeOf F M b
       ended-IsMadeOf traced down up = record {

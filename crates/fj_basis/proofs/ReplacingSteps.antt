@@ -91,7 +91,7 @@ module _ {K O : Type 0} {F : Field} (L : IsField F) {key : List ℕ → List ℕ
       let D = h.division.division in
       let Q = IsDivision-quotients R L G divisors.polynomials divisors.nonzero {h = sugared m} H D in
       let inside = StepsTo-IsWithinSugar R L G divisors.polynomials divisors.nonzero divisors.within (sugared m) H t.bounded D.states h.last D.steps in
-      let more = sugar-rises G (sugared m) D.states h.last D.steps in
+      let more = sugar-rises F key G (sugared m) D.states h.last D.steps in
       let low = h.division.low in
       let sugar = h.sugar in
       record {

@@ -76,6 +76,7 @@ fn finished<K: Coeff, O: Order>(
     pairs: u64,
 ) -> Result<Basis<K, O>, RunFault>
     ensures value { IfOk result (IsResult K.field O.key list.now pairs) }
+    ensures reduced { IfOk result (λ b. IsReducedBasis K.field O.key list.now b.members) }
     ensures made { IfOk result (IsMadeOf K.field list.now) }
     ensures fault { IsFaultOnlyWhere (Unfinished K.field O.key list.now pairs) (TooHigh K.field O.key list.now pairs) result }
 {
