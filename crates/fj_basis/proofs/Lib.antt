@@ -26,3 +26,4 @@ pub mod PendingPairs
 pub mod NextMember
 pub mod Turning
 pub mod Starting
+pub mod Copies

@@ -18,6 +18,7 @@ pub mod types;
 pub use calculation::basis;
 pub use division::divide;
 pub use stop::Stop;
+pub use types::copy_list;
 
 #[cfg(test)]
 mod tests;

@@ -3,8 +3,11 @@ ghost use Rattle.fj_plain.specs.Holds.{Holds};
 ghost use Rattle.fj_plain.specs.OrderRow.{order_in_row};
 ghost use Rattle.fj_basis.specs.Basis.{IsCertificateOf, IsMadeOf, cofactor};
 
+mod copy;
+
 use crate::certificate::{plain_list, plain_table};
 use crate::members::{Member, Row};
+pub use copy::copy_list;
 use fj_coeff::Coeff;
 use fj_mono::Order;
 use fj_plain::{Cert, OrderName};
