@@ -1,0 +1,44 @@
+-- Why calculations stop, and what they say then.
+use Rattle.std.specs.Prelude.{◌≡◌, ℕ, List, map, Result, Ok, Err}
+use Rattle.fj_theory.specs.Plain as plain
+use Rattle.fj_theory.specs.Polynomial.{Polynomial}
+use Rattle.fj_poly.specs.declared.fault.PolyFault.{PolyFault}
+use Rattle.fj_poly.specs.declared.fault.PolyFault.TheVariants as product
+use Rattle.fj_plain.specs.declared.order_name.OrderName.{OrderName}
+use Rattle.fj_plain.specs.declared.lists.Kept.{Kept}
+use Rattle.fj_basis.specs.declared.stop.Stop.{Stop}
+use Rattle.fj_basis.specs.declared.stop.Stop.TheVariants.{Pairs, High, Product, Memory}
+use Rattle.fj_basis.specs.declared.calculation.RunFault.{RunFault}
+use Rattle.fj_basis.specs.declared.calculation.RunFault.TheVariants as run
+
+-- What is kept is the list L of the run, and its order.
+pub record IsKeptOf (order : OrderName) (L : List Polynomial) (k : Kept) : Type 0 where
+  pub order_is : k.order ≡ order
+  pub list_is : map plain.polynomial k.list ≡ L
+
+-- The answer is `Pairs` exactly where P holds and `High` exactly where Q holds, and both keep the list L of the run. It is
+-- never `Product`. Of want of memory nothing is said.
+abbrev pub IsStopWhere : {T : Type 0} → Type 0 → Type 0 → OrderName → List Polynomial → Result T Stop → Type 0
+IsStopWhere P Q order L (Ok x) = (P → ⊥) × (Q → ⊥)
+IsStopWhere P Q order L (Err (Pairs k)) = P × (Q → ⊥) × IsKeptOf order L k
+IsStopWhere P Q order L (Err (High k)) = Q × (P → ⊥) × IsKeptOf order L k
+IsStopWhere P Q order L (Err (Product k)) = ⊥
+IsStopWhere P Q order L (Err Memory) = Unit {0}
+
+-- The same of a fault, but for the list, and only that it comes where P or Q holds.
+abbrev pub IsFaultOnlyWhere : {T : Type 0} → Type 0 → Type 0 → Result T RunFault → Type 0
+IsFaultOnlyWhere P Q (Ok x) = Unit {0}
+IsFaultOnlyWhere P Q (Err run.Pairs) = P
+IsFaultOnlyWhere P Q (Err run.High) = Q
+IsFaultOnlyWhere P Q (Err run.Memory) = Unit {0}
+
+-- The answer is `High` only where P holds.
+abbrev pub IsHighOnlyWhere : {T : Type 0} → Type 0 → Result T PolyFault → Type 0
+IsHighOnlyWhere P (Ok x) = Unit {0}
+IsHighOnlyWhere P (Err product.High) = P
+IsHighOnlyWhere P (Err product.Memory) = Unit {0}
+
+-- A refused product as the fault of a run.
+abbrev pub run_fault : PolyFault → RunFault
+run_fault product.High = run.High
+run_fault product.Memory = run.Memory

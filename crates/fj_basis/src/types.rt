@@ -1,0 +1,108 @@
+ghost use Rattle.std.specs.Prelude.{◌≡◌, ◌<◌, IfOk, All, length, map};
+ghost use Rattle.fj_plain.specs.Holds.{Holds};
+ghost use Rattle.fj_plain.specs.OrderRow.{order_in_row};
+ghost use Rattle.fj_basis.specs.Basis.{IsCertificateOf, IsMadeOf, cofactor};
+
+mod copy;
+
+use crate::certificate::{plain_list, plain_table};
+use crate::members::{Member, Row};
+pub use copy::copy_list;
+use fj_coeff::Coeff;
+use fj_mono::Order;
+use fj_plain::{Cert, OrderName};
+use fj_poly::Poly;
+use std::alloc::{AllocError, Global};
+use std::marker::Model;
+
+/// A reduced Gröbner basis for the order O, with the cofactors of its members over the list that it was made of, and
+/// those of the list over the members.
+#[derive(Drop)]
+pub struct Basis<K: Coeff, O: Order> {
+    members: Vec<Poly<K, O>>,
+    down: Vec<Row<K, O>>,
+    up: Vec<Row<K, O>>,
+}
+
+impl<K: Coeff, O: Order> Model for Basis<K, O> {
+    ghost use Rattle.std.specs.Prelude.{◌≡◌, length, map, All};
+    ghost use Rattle.fj_basis.specs.Basis.{WithCofactors, basis_code};
+
+    ghost Value = { WithCofactors };
+
+    ghost coded = { basis_code };
+
+    ghost view = { λ b. record { members = b.members.items; down = map (λ row. row.items) b.down.items; up = map (λ row. row.items) b.up.items } };
+
+    ghost invariant = { λ b. (length b.down.items ≡ length b.members.items) × All (λ row. length row.items ≡ length b.up.items) b.down.items × All (λ row. length row.items ≡ length b.members.items) b.up.items };
+}
+
+impl<K: Coeff, O: Order> Basis<K, O> {
+    // The basis of the members of a finished run, with the cofactors of the given polynomials.
+    pub(crate) fn new(
+        alloc: Global,
+        members: Vec<Member<K, O>>,
+        up: Vec<Row<K, O>>,
+    ) -> Result<Basis<K, O>, AllocError>
+        requires down { All (λ m. length m.row.items ≡ length up.items) members.items }
+        requires up { All (λ row. length row.items ≡ length members.items) up.items }
+        ensures members { IfOk result (λ b. b.members ≡ map (λ m. m.polynomial) members.items) }
+        ensures down { IfOk result (λ b. b.down ≡ map (λ m. m.row.items) members.items) }
+        ensures up { IfOk result (λ b. b.up ≡ map (λ row. row.items) up.items) }
+    {
+        let mut polynomials = Vec::with_capacity(alloc, members.len())?;
+        let mut down = Vec::with_capacity(alloc, members.len())?;
+        for member in members {
+            polynomials.push(member.polynomial)?;
+            down.push(member.row)?;
+        }
+        Ok(Basis {
+            members: polynomials,
+            down,
+            up,
+        })
+    }
+
+    /// The members, rising by lead.
+    pub fn members(&self) -> &[Poly<K, O>]
+        ensures { result.now ≡ self.now.members }
+    {
+        &self.members
+    }
+
+    /// The cofactor of the given polynomial at place j in the member at place i.
+    pub fn down(&self, i: usize, j: usize) -> &Poly<K, O>
+        requires member { i < length self.now.members }
+        requires given { j < length self.now.up }
+        ensures { result.now ≡ cofactor self.now.down i j }
+    {
+        &self.down[i][j]
+    }
+
+    /// The cofactor of the member at place i in the given polynomial at place j.
+    pub fn up(&self, j: usize, i: usize) -> &Poly<K, O>
+        requires given { j < length self.now.up }
+        requires member { i < length self.now.members }
+        ensures { result.now ≡ cofactor self.now.up j i }
+    {
+        &self.up[j][i]
+    }
+
+    /// The certificate that the basis and the list that it was made of generate one ideal, over a prime field: each
+    /// member by its cofactors over the list, and each polynomial of the list by its cofactors over the members.
+    pub fn cert(&self, alloc: Global, list: &[Poly<K, O>]) -> Result<Cert, AllocError>
+        requires prime { K.SIZE ≡ K.P }
+        requires made { IsMadeOf K.field list.now self.now }
+        ensures value { IfOk result (IsCertificateOf K.P (order_in_row O.ROW) list.now self.now) }
+        ensures holds { IfOk result Holds }
+    {
+        Ok(Cert::Basis {
+            p: K::P,
+            order: OrderName::of(O::ROW),
+            given: plain_list(alloc, list)?,
+            found: plain_list(alloc, &self.members)?,
+            down: plain_table(alloc, &self.down)?,
+            up: plain_table(alloc, &self.up)?,
+        })
+    }
+}
