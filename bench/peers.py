@@ -44,6 +44,8 @@ class Peer:
         return [self.answer(question, lines.get(question.number, "?"), session) for question in session.questions]
 
     def answer(self, question: Question, text: str, session: Session) -> str:
+        if text == "?":
+            return f"{question.number}: nothing"
         if text in ("true", "1") and question.words[0] in ("member", "same"):
             return f"{question.number}: yes"
         if text in ("false", "0") and question.words[0] in ("member", "same"):
