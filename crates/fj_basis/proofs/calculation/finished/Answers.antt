@@ -67,7 +67,7 @@ pub new-requires-clause-down : goal.new-requires-clause-down
 new-requires-clause-down g c =
     let rows = map (λ row. row.items) c.in_ok-up.up.items in
     let long = sym (length-map c.in_ok-up.up.items (λ row. row.items))
-        ∙ AreQuotients-long g.K.Coeff.field g.O.Order.key (sugared_members c.deref.result.now) c.args.list.now rows c.in_ok-up.ensures.rows in
+    ∙ AreQuotients-long g.K.Coeff.field g.O.Order.key (sugared_members c.deref.result.now) c.args.list.now rows c.in_ok-up.ensures.rows in
     as_long c.in_ok-run.ensures.value (ap (λ v. v.items) c.into_members.ensures) c.in_ok-members.members.items c.in_ok-members.ensures.traced long
 
 pub new-requires-clause-up : goal.new-requires-clause-up

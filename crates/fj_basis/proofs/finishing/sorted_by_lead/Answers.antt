@@ -70,7 +70,7 @@ pub index-requires : goal.index-requires
 index-requires g c =
     let low = lower g.O.Order.key c.args.members.items c.loop-member.members.items c.pop.new.self.items c.in-Some.member c.loop-member.invariant.0 c.loop-member.invariant.1 c.in-Some.ensures.items in
     let outs = ap length c.in_ok-out.ensures ∙ length-map-range_with_len (is_left_out g.O.Order.key (sugared_members c.deref.result.now)) 0 (length c.deref.result.now)
-        ∙ ap length c.deref.ensures.value in
+    ∙ ap length c.deref.ensures.value in
     let own = c.pop.new.self.ok.0 in
     let its = c.in_ok-out.out.ok.0 in
     omega (arith, low, outs, own, its, c.len.ensures)
@@ -98,7 +98,7 @@ loop-member-preserved-in-Continue-branch-2 g c =
     let p = popped xs old new m i.0 i.1 is in
     let low : length new ≤ length xs = omega (arith, p.1) in
     let out = decided key xs old new m i.0 i.1 is c.in_ok-out.out.items c.deref.result.now c.index.result.now c.len.result c.deref.ensures.value c.in_ok-out.ensures
-        (c.len.ensures ∙ c.pop.new.self.ok.0) c.index.ensures in (
+    (c.len.ensures ∙ c.pop.new.self.ok.0) c.index.ensures in (
       p.0,
       low,
       kept key xs (length new) m p.1 p.2 c.place_by_lead.new.sorted.items c.loop-member.sorted.items (out ∙ c.if-not-index.true)
@@ -118,7 +118,7 @@ loop-member-preserved g c =
     let p = popped xs old new m i.0 i.1 is in
     let low : length new ≤ length xs = omega (arith, p.1) in
     let out = decided key xs old new m i.0 i.1 is c.in_ok-out.out.items c.deref.result.now c.index.result.now c.len.result c.deref.ensures.value c.in_ok-out.ensures
-        (c.len.ensures ∙ c.pop.new.self.ok.0) c.index.ensures in (
+    (c.len.ensures ∙ c.pop.new.self.ok.0) c.index.ensures in (
       p.0,
       low,
       left key xs (length new) m p.1 p.2 c.loop-member.sorted.items (out ∙ c.if-not-index.false)
