@@ -3,16 +3,7 @@ pub mod Multiples
 pub mod DivisionState
 pub mod Faults
 pub mod FirstDivisor
-pub mod Gathered
-pub mod Rows
-pub mod Subtracted
-pub mod HighOnly
-pub mod FinishingActs
-pub mod FinishingRows
 pub mod UnderWay
 pub mod DivisionSteps
 pub mod Height
 pub mod Reached
-pub mod Places
-pub mod Leading
-pub mod PendingSets

@@ -1,10 +1,5 @@
 pub mod DivisionCode
 pub mod Left
 pub mod Quotients
-pub mod Members
-pub mod Place
-pub mod PlaceLaws
-pub mod State
 pub mod Outcome
-pub mod Finished
 pub mod Basis

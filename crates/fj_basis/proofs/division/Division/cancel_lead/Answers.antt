@@ -1,12 +1,11 @@
-use Rattle.std.proofs.Common.{◌≡◌, ◌≢◌, ℕ, ◌+◌, ◌<◌, ◌≤◌, max, List, [], Result, Err, Option, Some, None, IsTrue, IsSome, is_some, true, length, get_or, set, All, Greater, refl, ap, ap₂, ◌∙◌, sym, subst, arith}
+use Rattle.std.proofs.Common.{◌≡◌, ℕ, ◌+◌, ◌<◌, ◌≤◌, max, List, [], IsTrue, length, get_or, set, All, Greater, ap, ap₂, ◌∙◌, sym, subst, arith}
 use Rattle.std.specs.FinMap.{empty, len}
-use Rattle.std.specs.Option.{option_map}
 use Rattle.std.proofs.lemmas.Result.{err_from_is_err_and}
 use Rattle.fj_theory.specs.Exponents.{divides, minus, total}
 use Rattle.fj_theory.specs.MonomialOrder.{compare_by}
-use Rattle.fj_theory.specs.Polynomial.{Polynomial, IsPolynomial, lead, sum, product, term, terms_falling}
+use Rattle.fj_theory.specs.Polynomial.{IsPolynomial, lead, sum, product, term, terms_falling}
 use Rattle.fj_theory.specs.Lead.{lead_exponents, lead_coefficient}
-use Rattle.fj_theory.specs.Division.{cancel_lead, degree_limit, Division}
+use Rattle.fj_theory.specs.Division.{cancel_lead}
 use Rattle.std.proofs.lemmas.List.{get_or_default}
 use Rattle.fj_theory.proofs.Field.{zero_below}
 use Rattle.fj_theory.proofs.Lead.{lead_coefficient-nonzero, lead_coefficient-below}
@@ -16,7 +15,6 @@ use Rattle.fj_basis.proofs.Multiples.{quotient_nonzero, product_term-low}
 use Rattle.fj_poly.specs.Limit.{IsHigh}
 use Rattle.fj_poly.specs.declared.poly.Poly.{Poly}
 use Rattle.fj_basis.proofs.Faults.{not_high_at}
-use Rattle.fj_basis.proofs.division.Division.cancel_lead.Given as given
 use Rattle.fj_basis.proofs.division.Division.cancel_lead.Goals as goal
 
 pub unwrap-d-requires : goal.unwrap-d-requires
@@ -80,24 +78,28 @@ invariant_of-self g c =
     let parts = lead-parts g.O.Order.key c.args.g.now _ (sym (rw c.unwrap-d.ensures at c.lead.ensures.lead)) in
     let F = g.K.Coeff.field in
     let now : c.in_ok-self-inside.field-0 ≡ sum F c.self.inside.left
-        (product F (term (F.neg (F.mul (g.K.Coeff.rank c.args.c) (F.inverse (lead_coefficient g.O.Order.key c.args.g.now)))) (minus c.args.m.now.exponents (lead_exponents g.O.Order.key c.args.g.now))) c.args.g.now) =
-    cc (c.in_ok-self-inside.ensures.value, c.in_ok-multiple.ensures.value, c.in_ok-term.ensures.value, parts.0, parts.1) in
-    (subst (λ f. c.self.inside.moved ≤ len f) (sym now)
-    (seen-within g.met.K.Coeff.lawful g.met.O.Order.monomial_order c.self.invariant.1 c.self.inside.moved
-    (place_inside g.met.K.Coeff.lawful g.met.O.Order.monomial_order c.self.invariant.1 c.self.inside.moved c.args.self.now (ap (λ d. d.dividend) c.self.view_is) c.requires.lead)
-    [] 0 (ap (λ d. lead g.O.Order.key d.dividend) c.self.view_is ∙ c.requires.lead) c.lead.ensures.polynomial c.requires.nonzero c.requires.divisor), c.in_ok-self-inside.ensures.polynomial)
+    (product F (term (F.neg (F.mul (g.K.Coeff.rank c.args.c) (F.inverse (lead_coefficient g.O.Order.key c.args.g.now)))) (minus c.args.m.now.exponents (lead_exponents g.O.Order.key c.args.g.now))) c.args.g.now) =
+    cc (c.in_ok-self-inside.ensures.value, c.in_ok-multiple.ensures.value, c.in_ok-term.ensures.value, parts.0, parts.1) in (
+      subst (λ f. c.self.inside.moved ≤ len f) (sym now)
+          (seen-within g.met.K.Coeff.lawful g.met.O.Order.monomial_order c.self.invariant.1 c.self.inside.moved
+          (place_inside g.met.K.Coeff.lawful g.met.O.Order.monomial_order c.self.invariant.1 c.self.inside.moved c.args.self.now (ap (λ d. d.dividend) c.self.view_is) c.requires.lead)
+          [] 0 (ap (λ d. lead g.O.Order.key d.dividend) c.self.view_is ∙ c.requires.lead) c.lead.ensures.polynomial c.requires.nonzero c.requires.divisor),
+      c.in_ok-self-inside.ensures.polynomial,
+    )
 
 pub invariant_of-self-2 : goal.invariant_of-self-2
 invariant_of-self-2 g c =
     let parts = lead-parts g.O.Order.key c.args.g.now _ (sym (rw c.unwrap-d.ensures at c.lead.ensures.lead)) in
     let F = g.K.Coeff.field in
     let now : c.in_ok-self-inside.field-0 ≡ sum F c.self.inside.left
-        (product F (term (F.neg (F.mul (g.K.Coeff.rank c.args.c) (F.inverse (lead_coefficient g.O.Order.key c.args.g.now)))) (minus c.args.m.now.exponents (lead_exponents g.O.Order.key c.args.g.now))) c.args.g.now) =
-    cc (c.in_ok-self-inside.ensures.value, c.in_ok-multiple.ensures.value, c.in_ok-term.ensures.value, parts.0, parts.1) in
-    (subst (λ f. c.self.inside.moved ≤ len f) (sym now)
-    (seen-within g.met.K.Coeff.lawful g.met.O.Order.monomial_order c.self.invariant.1 c.self.inside.moved
-    (place_inside g.met.K.Coeff.lawful g.met.O.Order.monomial_order c.self.invariant.1 c.self.inside.moved c.args.self.now (ap (λ d. d.dividend) c.self.view_is) c.requires.lead)
-    [] 0 (ap (λ d. lead g.O.Order.key d.dividend) c.self.view_is ∙ c.requires.lead) c.lead.ensures.polynomial c.requires.nonzero c.requires.divisor), c.in_ok-self-inside.ensures.polynomial)
+    (product F (term (F.neg (F.mul (g.K.Coeff.rank c.args.c) (F.inverse (lead_coefficient g.O.Order.key c.args.g.now)))) (minus c.args.m.now.exponents (lead_exponents g.O.Order.key c.args.g.now))) c.args.g.now) =
+    cc (c.in_ok-self-inside.ensures.value, c.in_ok-multiple.ensures.value, c.in_ok-term.ensures.value, parts.0, parts.1) in (
+      subst (λ f. c.self.inside.moved ≤ len f) (sym now)
+          (seen-within g.met.K.Coeff.lawful g.met.O.Order.monomial_order c.self.invariant.1 c.self.inside.moved
+          (place_inside g.met.K.Coeff.lawful g.met.O.Order.monomial_order c.self.invariant.1 c.self.inside.moved c.args.self.now (ap (λ d. d.dividend) c.self.view_is) c.requires.lead)
+          [] 0 (ap (λ d. lead g.O.Order.key d.dividend) c.self.view_is ∙ c.requires.lead) c.lead.ensures.polynomial c.requires.nonzero c.requires.divisor),
+      c.in_ok-self-inside.ensures.polynomial,
+    )
 
 pub returns-clause-value : goal.returns-clause-value
 returns-clause-value g c =
