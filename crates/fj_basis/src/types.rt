@@ -3,6 +3,9 @@ ghost use Rattle.fj_plain.specs.Holds.{Holds};
 ghost use Rattle.fj_plain.specs.OrderRow.{order_in_row};
 ghost use Rattle.fj_basis.specs.Basis.{IsCertificateOf, IsMadeOf, cofactor};
 
+mod copy;
+
+pub use copy::copy_list;
 use fj_coeff::Coeff;
 use fj_mono::Order;
 use fj_plain::Cert;
@@ -66,7 +69,6 @@ impl<K: Coeff, O: Order> Basis<K, O> {
         ensures value { IfOk result (IsCertificateOf K.P (order_in_row O.ROW) list.now self.now) }
         ensures holds { IfOk result Holds }
     {
-        let _ = (alloc, list);
         Err(AllocError)
     }
 }
