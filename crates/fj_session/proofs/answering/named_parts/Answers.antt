@@ -14,7 +14,7 @@ same_poly : (f g : PlainPolynomial) → values.Poly f ≡ values.Poly g → f �
 same_poly f g e = cc
 
 pub polynomial_of-requires : goal.polynomial_of-requires
-polynomial_of-requires c = (c.requires.f, ap (λ v. v.1) (same_Some _ _ (sym c.get.ensures ∙ c.requires.stands)))
+polynomial_of-requires c = (c.requires.poly.f, ap (λ v. v.1) (same_Some _ _ (sym c.get.ensures ∙ c.requires.poly.stands)))
 
 pub returns-clause-parts : goal.returns-clause-parts
 returns-clause-parts c =
@@ -23,7 +23,7 @@ returns-clause-parts c =
 
 pub returns-clause-variables : goal.returns-clause-variables
 returns-clause-variables c =
-    let same = same_poly c.polynomial_of.result.now c.requires.f (sym c.polynomial_of.ensures ∙ ap (λ v. v.1) (same_Some _ _ (sym c.get.ensures ∙ c.requires.stands))) in
-    let first : UsesFirst (length c.args.env.now.vars) (polynomial c.polynomial_of.result.now) = subst (λ f. UsesFirst (length c.args.env.now.vars) (polynomial f)) (sym same) c.requires.variables in
+    let same = same_poly c.polynomial_of.result.now c.requires.poly.f (sym c.polynomial_of.ensures ∙ ap (λ v. v.1) (same_Some _ _ (sym c.get.ensures ∙ c.requires.poly.stands))) in
+    let first : UsesFirst (length c.args.env.now.vars) (polynomial c.polynomial_of.result.now) = subst (λ f. UsesFirst (length c.args.env.now.vars) (polynomial f)) (sym same) c.requires.poly.variables in
     if_ok c.prime_parts.result (AreRows (prime_field c.args.env.now.p) (key_of c.args.order) c.args.e (polynomial c.polynomial_of.result.now)) (All (RowUsesFirst (length c.args.env.now.vars)))
     (λ rows h. rows_use_first (IsField-prime_field c.args.env.now.p c.requires.prime) (length c.args.env.now.vars) c.args.e (polynomial c.polynomial_of.result.now) first rows h) c.prime_parts.ensures
