@@ -66,7 +66,6 @@ impl<K: Coeff, O: Order> Basis<K, O> {
         ensures value { IfOk result (IsCertificateOf K.P (order_in_row O.ROW) list.now self.now) }
         ensures holds { IfOk result Holds }
     {
-        let _ = (alloc, list);
         Err(AllocError)
     }
 }
