@@ -1,6 +1,9 @@
 pub mod Primes
 pub mod Known
 pub mod Residues
+pub mod Stops
+pub mod HighProducts
+pub mod Places
 pub mod Pieces
 pub mod Variables
 pub mod ReadBytes

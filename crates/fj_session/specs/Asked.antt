@@ -38,3 +38,21 @@ pub record IsPartsQuestion (env : Env) (e place : ℕ) : Type 0 where
 
 abbrev pub IsPoly : Value → Type 0
 IsPoly value = (f : PlainPolynomial) × (value ≡ values.Poly f)
+
+-- The name stands for an ideal whose generators are polynomials over GF(p) in the variables of the ring.
+pub record IsIdealAt (env : Env) (place : ℕ) : Type 0 where
+  pub name : List ℕ
+  pub gens : List PlainPolynomial
+  pub stands : slice_get env.values place ≡ Some (name, values.Ideal gens)
+  pub ranks : All (HasRanksBelow env.p) gens
+  pub low : All (λ g. All (λ t. total t.0 ≤ 2 ^ 40) g.terms) gens
+  pub variables : All (λ g. UsesFirst (length env.vars) (polynomial g)) gens
+
+-- The name stands for a polynomial over GF(p) in the variables of the ring.
+pub record IsPolyAt (env : Env) (place : ℕ) : Type 0 where
+  pub name : List ℕ
+  pub f : PlainPolynomial
+  pub stands : slice_get env.values place ≡ Some (name, values.Poly f)
+  pub ranks : HasRanksBelow env.p f
+  pub low : All (λ t. total t.0 ≤ 2 ^ 40) f.terms
+  pub variables : UsesFirst (length env.vars) (polynomial f)
