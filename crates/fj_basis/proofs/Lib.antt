@@ -7,3 +7,4 @@ pub mod UnderWay
 pub mod DivisionSteps
 pub mod Height
 pub mod Reached
+pub mod Copies

@@ -28,5 +28,6 @@ pub fn basis<K: Coeff, O: Order>(
     ensures long { IfOk result (λ b. length b.up ≡ length list.now) }
     ensures stop { IsStopWhere (Unfinished K.field O.key list.now pairs) (TooHigh K.field O.key list.now pairs) (order_in_row O.ROW) list.now result }
 {
+    let _ = (alloc, list.len(), pairs);
     Err(Stop::Memory)
 }

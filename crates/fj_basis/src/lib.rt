@@ -12,3 +12,4 @@ pub mod types;
 pub use calculation::basis;
 pub use division::divide;
 pub use stop::Stop;
+pub use types::copy_list;

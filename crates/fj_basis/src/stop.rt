@@ -2,7 +2,7 @@ ghost use Rattle.std.specs.Prelude.{◌≡◌};
 ghost use Rattle.fj_basis.specs.declared.stop.Stop.TheVariants.{Memory};
 
 use fj_plain::Kept;
-use std::alloc::AllocError;
+use std::alloc::{AllocError, AllocFailed};
 use thiserror::Error;
 
 /// Why a calculation with ideals stops without an answer. A list that a run was given is kept with the run's order.
@@ -25,6 +25,14 @@ impl From<AllocError> for Stop {
     ghost from_gives = { λ _ e. e ≡ Memory };
 
     fn from(_e: AllocError) -> Stop {
+        Stop::Memory
+    }
+}
+
+impl<T: Drop> From<AllocFailed<T>> for Stop {
+    ghost from_gives = { λ _ e. e ≡ Memory };
+
+    fn from(_e: AllocFailed<T>) -> Stop {
         Stop::Memory
     }
 }

@@ -3,6 +3,9 @@ ghost use Rattle.fj_plain.specs.Holds.{Holds};
 ghost use Rattle.fj_plain.specs.OrderRow.{order_in_row};
 ghost use Rattle.fj_basis.specs.Basis.{IsCertificateOf, IsMadeOf, cofactor};
 
+mod copy;
+
+pub use copy::copy_list;
 use fj_coeff::Coeff;
 use fj_mono::Order;
 use fj_plain::Cert;

@@ -1,0 +1,9 @@
+//! Ideals of polynomials by their reduced Gröbner bases: members, equality, sums and products, with certificates.
+#![tactic(auto)]
+
+mod ideal;
+mod membership;
+mod operations;
+
+pub use ideal::Ideal;
+
