@@ -3,6 +3,8 @@ pub mod Known
 pub mod Residues
 pub mod Stops
 pub mod HighProducts
+pub mod OwnStops
+pub mod Made
 pub mod Places
 pub mod Pieces
 pub mod Variables

@@ -1,4 +1,4 @@
-use Rattle.std.proofs.Common.{◌≡◌, ◌^◌, ◌∷◌, [], Any, Err, sym, ap, ◌∙◌, subst, refl}
+use Rattle.std.proofs.Common.{◌≡◌, ℕ, ◌^◌, ◌∷◌, [], Any, Err, sym, ap, ◌∙◌, subst, refl}
 use Rattle.fj_theory.specs.FrobeniusPower.{frobenius_power}
 use Rattle.fj_theory.specs.Polynomial.{power}
 use Rattle.fj_poly.specs.Limit.{IsHigh, IsHighWhere}
@@ -13,7 +13,7 @@ pub returns-in_ok-to_plain-in-Err-High-clause-stop : goal.returns-in_ok-to_plain
 returns-in_ok-to_plain-in-Err-High-clause-stop g c =
     let F = g.K.Coeff.field in
     let q = F.characteristic ^ c.args.e in
-    let cause = subst (λ f. IsHighWhere (Any IsHigh (frobenius_power F q c.from_ref.result.now)) (Err f)) c.in-Err-High.field-0-is c.in-Err-High.ensures.high in
+    let cause = subst (λ f. IsHighWhere {T = ℕ} (Any IsHigh (frobenius_power F q c.from_ref.result.now)) (Err f)) c.in-Err-High.field-0-is c.in-Err-High.ensures.high in
     record {
       order = refl;
       polynomials_are = record {
