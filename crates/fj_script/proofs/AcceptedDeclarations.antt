@@ -1,15 +1,13 @@
--- What statements keep: the declared polynomials are over GF(p), in the variables of the ring and of degree at most
--- 1,000, and each question for parts has an e of at most 12 and names a polynomial.
-use Rattle.std.proofs.Common.{◌≡◌, ℕ, zero, suc, ◌+◌, ◌<◌, ◌≤◌, Bool, true, false, ◌||◌, ltb, List, [], ◌∷◌, ◌++◌, length, map, get_or, length-append, All, Contains, Option, Some, None, Result, Ok, Err, refl, sym, ap, ◌∙◌, subst, arith}
-use Rattle.std.specs.List.{slice_get, list_any}
-use Rattle.std.specs.Option.{option_map, option_map_or}
+-- What statements keep: declared polynomials and generators are over GF(p), in the variables of the ring and of degree
+-- at most 1,000, and the arguments of each question are of the kinds and within the limits that it takes.
+use Rattle.std.proofs.Common.{◌≡◌, ◌≢◌, ℕ, ◌+◌, ◌<◌, ◌≤◌, Bool, true, false, leb, ltb, leb-false, ltb-false, List, [], ◌∷◌, ◌++◌, length, length-append, All, Contains, Option, Some, None, Ok, Err, refl, sym, subst, arith}
+use Rattle.std.specs.Option.{option_map_or}
 use Rattle.std.specs.FinMap.{get}
 use Rattle.std.specs.Option.{is_some}
 use Rattle.std.specs.Str.{bytes_eq}
-use Rattle.std.proofs.lemmas.List.{get_or_append_left}
+use Rattle.std.proofs.lemmas.Nat.{mod_below}
 use Rattle.std.proofs.lemmas.List.Quantifiers.{position-Some}
-use Rattle.std.proofs.lemmas.Option.{get_or_from_slice_get, slice_get-get_or, slice_get_within}
-use Rattle.std.proofs.lemmas.List.Elements.{All-nil, All-cons, All-append, All-weaker}
+use Rattle.std.proofs.lemmas.List.Elements.{All-nil, All-cons, All-append, All-push, All-weaker}
 use Rattle.fj_coeff.specs.Field.{primes}
 use Rattle.fj_coeff.specs.PrimeField.{prime_field}
 use Rattle.fj_coeff.specs.PrimeFieldLaws.{IsField-prime_field}
@@ -19,31 +17,26 @@ use Rattle.fj_theory.specs.Polynomial.{Polynomial, support, terms_falling}
 use Rattle.fj_theory.proofs.Keys.{grevlex_key-IsMonomialOrder}
 use Rattle.fj_theory.proofs.Polynomial.{coefficient-Some}
 use Rattle.fj_theory.proofs.Terms.{terms_falling-get}
+use Rattle.fj_plain.specs.declared.order_name.OrderName.{OrderName}
+use Rattle.fj_plain.specs.declared.order_name.OrderName.TheVariants as orders
 use Rattle.fj_text.proofs.FirstVariables.{AreZeroFrom}
 use Rattle.fj_text.specs.declared.scope.Meaning.TheVariants as meanings
 use Rattle.fj_text.specs.Expression as text
 use Rattle.fj_text.specs.State.{State, after_sign, next}
-use Rattle.fj_text.specs.Token.{Token}
+use Rattle.fj_text.specs.Token.{minus}
 use Rattle.fj_text.specs.Word.{place_of}
-use Rattle.fj_script.specs.declared.fault.FaultKind.{FaultKind}
-use Rattle.fj_script.specs.declared.fault.LineFault.{LineFault}
 use Rattle.fj_script.specs.declared.question.Asked.{Asked}
 use Rattle.fj_script.specs.declared.question.Question.{Question}
-use Rattle.fj_script.specs.declared.question.Question.TheVariants as questions
-use Rattle.fj_script.specs.declared.value.Kind.{Kind}
-use Rattle.fj_script.specs.declared.value.Kind.TheVariants as kinds
 use Rattle.fj_script.specs.Declaration as declaration
-use Rattle.fj_script.specs.Items.{at_end, enclosed, listed}
-use Rattle.fj_script.specs.LineFault.{◌>>=◌}
+use Rattle.fj_script.specs.Items.{at_end, enclosed, listed, narrow}
 use Rattle.fj_script.specs.Names as names
 use Rattle.fj_script.specs.Session.{Session, Terms, Value, Poly, Ideal, Point, ask, declare, terms_in}
 use Rattle.fj_script.proofs.AcceptedExpressions.{expression_read}
 use Rattle.fj_script.proofs.AcceptedPolynomials.{IsSmallIn, at_coefficient}
-use Rattle.fj_script.proofs.AcceptedYields.{Yields, Anything, yields_anything, yields_if, yields_option}
-
-pub yields_then : {A B E : Type 0} (P : A → Type 0) (Q : B → Type 0) (r : Result A E) (f : A → Result B E) → Yields P r → ((x : A) → P x → Yields Q (f x)) → Yields Q (r >>= f)
-yields_then P Q (Ok x) f h k = k x h
-yields_then P Q (Err e) f h k = tt
+use Rattle.fj_script.proofs.AcceptedPrimes.{prime_positive}
+use Rattle.fj_script.proofs.AcceptedArguments.{IsSoundQuestion, question_kept}
+use Rattle.fj_script.proofs.AcceptedItems.{enclosed_kept, listed_kept}
+use Rattle.fj_script.proofs.AcceptedYields.{Yields, Anything, yields_anything, yields_if, yields_option, yields_then, yields_weaker}
 
 -- Terms over GF(p) in the first n variables, of degree at most 1,000.
 pub record AreSound (p n : ℕ) (ts : Terms) : Type 0 where
@@ -51,29 +44,27 @@ pub record AreSound (p n : ℕ) (ts : Terms) : Type 0 where
   pub first : All (λ t. AreZeroFrom n t.0) ts
   pub low : All (λ t. total t.0 ≤ 1000) ts
 
+-- What a declared name stands for: polynomials as these terms are, or a point with a coordinate below p for each variable.
 abbrev pub IsSoundValue : ℕ → ℕ → Value → Type 0
 IsSoundValue p n (Poly f) = AreSound p n f
-IsSoundValue p n (Ideal fs) = Unit {0}
-IsSoundValue p n (Point cs) = Unit {0}
+IsSoundValue p n (Ideal fs) = All (AreSound p n) fs
+IsSoundValue p n (Point cs) = (length cs ≡ n) × All (λ c. c < p) cs
 
--- A polynomial is declared at this place.
-pub record NamesPoly (values : List (List ℕ × Value)) (place : ℕ) : Type 0 where
-  pub name : List ℕ
-  pub terms : Terms
-  pub is : slice_get values place ≡ Some (name, Poly terms)
+-- The printing order and the turn budget of a question.
+pub record IsSoundPrinting (order : OrderName) (budget : ℕ) : Type 0 where
+  pub named : order ≢ orders.Elim
+  pub positive : 1 ≤ budget
+  pub low : budget ≤ 10000000
 
-abbrev pub IsSoundQuestion : List (List ℕ × Value) → Question → Type 0
-IsSoundQuestion values question = (e place : ℕ) → question ≡ questions.Parts e place → (e ≤ 12) × NamesPoly values place
+pub record IsSoundAsked (p : ℕ) (values : List (List ℕ × Value)) (asked : Asked) : Type 0 where
+  pub printing : IsSoundPrinting asked.order asked.budget
+  pub question : IsSoundQuestion p values asked.question
 
 pub record IsSound (S : Session) : Type 0 where
   pub prime : Contains primes S.prime
+  pub printing : IsSoundPrinting S.order S.budget
   pub values : All (λ v. IsSoundValue S.prime (length S.variables) v.1) S.values
-  pub asked : All (λ a. IsSoundQuestion S.values a.question) S.asked
-
-slice_get_kept : {X : Type 0} (xs : List X) (v : X) (i : ℕ) (x : X) → slice_get xs i ≡ Some x → slice_get (xs ++ v ∷ []) i ≡ Some x
-slice_get_kept xs v i x e =
-    let within = slice_get_within xs i x e in
-    slice_get-get_or (xs ++ v ∷ []) i x (let longer = length-append xs (v ∷ []) in omega (arith, within, longer)) ∙ ap Some (get_or_append_left xs (v ∷ []) x i within ∙ get_or_from_slice_get xs i x x e)
+  pub asked : All (IsSoundAsked S.prime S.values) S.asked
 
 single : {X : Type 0} (P : X → Type 0) (x : X) → P x → All P (x ∷ [])
 single P x h = All-cons P x [] h (All-nil P)
@@ -123,22 +114,20 @@ module _ (S : Session) (H : IsSound S) where
   unfolding declaration.counted
   counted_sound terms s = yields_then SoundTerms SoundTerms (declaration.expression S s) _ (expression_sound s) (λ f h. yields_if SoundTerms (ltb 1000000 (terms + length f.0)) _ _ (λ _. tt) (λ _. h))
 
-  -- A name more keeps the questions.
-  question_kept : (v : List ℕ × Value) (q : Question) → IsSoundQuestion S.values q → IsSoundQuestion (S.values ++ v ∷ []) q
-  question_kept v q h e place is = let k = h e place is in (k.0, record { name = k.1.name; terms = k.1.terms; is = slice_get_kept S.values v place (k.1.name, Poly k.1.terms) k.1.is })
-
   declare_sound : (name : List ℕ) (value : Value) (terms : ℕ) → IsSoundValue S.prime (length S.variables) value → IsSound (declare S name value terms)
   declare_sound name value terms h = record {
     prime = H.prime;
+    printing = H.printing;
     values = All-append (λ v. IsSoundValue S.prime (length S.variables) v.1) S.values ((name, value) ∷ []) H.values (single (λ v. IsSoundValue S.prime (length S.variables) v.1) (name, value) h);
-    asked = All-weaker (λ a. IsSoundQuestion S.values a.question) (λ a. IsSoundQuestion (S.values ++ (name, value) ∷ []) a.question) (λ a k. question_kept (name, value) a.question k) S.asked H.asked;
+    asked = All-weaker (IsSoundAsked S.prime S.values) (IsSoundAsked S.prime (S.values ++ (name, value) ∷ [])) (λ a k. record { printing = k.printing; question = question_kept S.values (name, value) S.prime a.question k.question }) S.asked H.asked;
   }
 
-  pub ask_sound : (q : Question) → IsSoundQuestion S.values q → IsSound (ask S q)
+  pub ask_sound : (q : Question) → IsSoundQuestion S.prime S.values q → IsSound (ask S q)
   ask_sound q h = record {
     prime = H.prime;
+    printing = H.printing;
     values = H.values;
-    asked = All-append (λ a. IsSoundQuestion S.values a.question) S.asked _ H.asked (single (λ a. IsSoundQuestion S.values a.question) _ h);
+    asked = All-append (IsSoundAsked S.prime S.values) S.asked _ H.asked (single (IsSoundAsked S.prime S.values) _ (record { printing = H.printing; question = h }));
   }
 
   pub at_end_sound : (x : Session × State) → IsSound x.0 → Yields IsSound (at_end x)
@@ -152,17 +141,48 @@ module _ (S : Session) (H : IsSound S) where
       (λ name _. yields_then SoundTerms IsSound (declaration.counted S S.terms name.1) _ (counted_sound S.terms name.1)
       (λ f h. at_end_sound (declare S name.0 (Poly f.0) (length f.0), f.1) (declare_sound name.0 (Poly f.0) (length f.0) h)))
 
+  generator_sound : (fs : List Terms) (s : State) → All (AreSound S.prime (length S.variables)) fs → Yields (λ f. All (AreSound S.prime (length S.variables)) (fs ++ f.0 ∷ [])) (declaration.generator S fs s)
+  unfolding declaration.generator
+  generator_sound fs s h =
+      let with_one : Terms × State → Type 0 = λ f. All (AreSound S.prime (length S.variables)) (fs ++ f.0 ∷ []) in
+      yields_if with_one (leb 64 (length fs)) _ _ (λ _. tt)
+      (λ _. yields_weaker SoundTerms with_one _ (counted_sound (S.terms + terms_in fs) s) (λ f k. All-push (AreSound S.prime (length S.variables)) fs f.0 h k))
+
   pub ideal_sound : (s : State) → Yields IsSound (declaration.ideal S s)
   unfolding declaration.ideal
   ideal_sound s =
+      let generators : List Terms → Type 0 = All (AreSound S.prime (length S.variables)) in
       yields_then Anything IsSound (declaration.name_equals S s) _ (yields_anything _)
-      (λ name _. yields_then Anything IsSound (enclosed (listed (declaration.generator S)) name.1) _ (yields_anything _)
-      (λ fs _. at_end_sound (declare S name.0 (Ideal fs.0) (terms_in fs.0), fs.1) (declare_sound name.0 (Ideal fs.0) (terms_in fs.0) tt)))
+      (λ name _. yields_then (λ fs. generators fs.0) IsSound (enclosed (listed (declaration.generator S)) name.1) _ (enclosed_kept generators _ (listed_kept generators (declaration.generator S) generator_sound (All-nil _)) name.1)
+      (λ fs h. at_end_sound (declare S name.0 (Ideal fs.0) (terms_in fs.0), fs.1) (declare_sound name.0 (Ideal fs.0) (terms_in fs.0) h)))
+
+  -- Coordinates below p, at most one for each variable.
+  abbrev ArePartly : List ℕ → Type 0
+  ArePartly cs = (length cs ≤ length S.variables) × All (λ c. c < S.prime) cs
+
+  constant_sound : (s : State) → Yields (λ c. c.0 < S.prime) (declaration.constant S.prime s)
+  unfolding declaration.constant
+  constant_sound s =
+      let below : ℕ × State → Type 0 = λ c. c.0 < S.prime in
+      let positive = prime_positive S.prime H.prime in
+      yields_option below (after_sign minus s) _ _
+      (λ t _. yields_then Anything below (narrow t) _ (yields_anything _) (λ n _. mod_below _ S.prime positive))
+      (yields_then Anything below (narrow s) _ (yields_anything _) (λ n _. mod_below n.0 S.prime positive))
+
+  coordinate_sound : (cs : List ℕ) (s : State) → ArePartly cs → Yields (λ c. ArePartly (cs ++ c.0 ∷ [])) (declaration.coordinate S cs s)
+  unfolding declaration.coordinate
+  coordinate_sound cs s h =
+      let with_one : ℕ × State → Type 0 = λ c. ArePartly (cs ++ c.0 ∷ []) in
+      yields_if with_one (leb (length S.variables) (length cs)) _ _ (λ _. tt)
+      (λ few. yields_weaker (λ c. c.0 < S.prime) with_one _ (constant_sound s)
+      (λ c k. let less = leb-false (length S.variables) (length cs) few in let longer = length-append cs (c.0 ∷ []) in (omega (arith, less, longer), All-push (λ c. c < S.prime) cs c.0 h.1 k)))
 
   pub point_sound : (s : State) → Yields IsSound (declaration.point S s)
   unfolding declaration.point
   point_sound s =
       yields_then Anything IsSound (declaration.name_equals S s) _ (yields_anything _)
-      (λ name _. yields_then Anything IsSound (enclosed (listed (declaration.coordinate S)) name.1) _ (yields_anything _)
-      (λ cs _. yields_if IsSound (ltb (length cs.0) (length S.variables)) _ _ (λ _. tt)
-      (λ _. at_end_sound (declare S name.0 (Point cs.0) 0, cs.1) (declare_sound name.0 (Point cs.0) 0 tt))))
+      (λ name _. yields_then (λ cs. ArePartly cs.0) IsSound (enclosed (listed (declaration.coordinate S)) name.1) _
+      (enclosed_kept ArePartly _ (listed_kept ArePartly (declaration.coordinate S) coordinate_sound (omega arith, All-nil _)) name.1)
+      (λ cs h. yields_if IsSound (ltb (length cs.0) (length S.variables)) _ _ (λ _. tt)
+      (λ all. let enough = ltb-false (length cs.0) (length S.variables) all in
+      at_end_sound (declare S name.0 (Point cs.0) 0, cs.1) (declare_sound name.0 (Point cs.0) 0 (omega (arith, enough, h.0), h.1)))))

@@ -1,6 +1,7 @@
 -- What holds of an answer where it isn't a fault.
 use Rattle.std.proofs.Common.{◌≡◌, Bool, true, false, cond, Option, Some, None, Result, Ok, Err, refl, subst}
 use Rattle.std.specs.Option.{option_map_or}
+use Rattle.fj_script.specs.LineFault.{◌>>=◌}
 
 abbrev pub Yields : {A E : Type 0} → (A → Type 0) → Result A E → Type 0
 Yields P (Ok x) = P x
@@ -25,3 +26,11 @@ yields_if Q false r s first second = second refl
 
 pub yielded : {A E : Type 0} (P : A → Type 0) (r : Result A E) (x : A) → r ≡ Ok x → Yields P r → P x
 yielded P r x e h = subst (Yields P) e h
+
+pub yields_then : {A B E : Type 0} (P : A → Type 0) (Q : B → Type 0) (r : Result A E) (f : A → Result B E) → Yields P r → ((x : A) → P x → Yields Q (f x)) → Yields Q (r >>= f)
+yields_then P Q (Ok x) f h k = k x h
+yields_then P Q (Err e) f h k = tt
+
+pub yields_weaker : {A E : Type 0} (P Q : A → Type 0) (r : Result A E) → Yields P r → ((x : A) → P x → Q x) → Yields Q r
+yields_weaker P Q (Ok x) h k = k x h
+yields_weaker P Q (Err e) h k = tt

@@ -7,6 +7,9 @@ pub mod Scripts
 pub mod More
 pub mod AcceptedPrimes
 pub mod AcceptedYields
+pub mod AcceptedArguments
+pub mod AcceptedItems
+pub mod AcceptedNumbers
 pub mod AcceptedPolynomials
 pub mod AcceptedExpressions
 pub mod AcceptedDeclarations

@@ -24,11 +24,8 @@ pub record AreOfOneSession (env : Env) (asked : Asked) : Type 0 where
   pub env_there : env ≡ script.env
   pub asked_there : Contains script.asked asked
 
--- What is known of a question for parts in an accepted session: the name stands for a polynomial over GF(p) in the
--- variables of the ring.
-pub record IsPartsQuestion (env : Env) (e place : ℕ) : Type 0 where
-  pub prime : Contains primes env.p
-  pub small : e ≤ 12
+-- The name at this place stands for a polynomial over GF(p) in the variables of the ring.
+pub record IsPolyAt (env : Env) (place : ℕ) : Type 0 where
   pub name : List ℕ
   pub f : PlainPolynomial
   pub stands : slice_get env.values place ≡ Some (name, values.Poly f)
@@ -36,10 +33,7 @@ pub record IsPartsQuestion (env : Env) (e place : ℕ) : Type 0 where
   pub low : All (λ t. total t.0 ≤ 2 ^ 40) f.terms
   pub variables : UsesFirst (length env.vars) (polynomial f)
 
-abbrev pub IsPoly : Value → Type 0
-IsPoly value = (f : PlainPolynomial) × (value ≡ values.Poly f)
-
--- The name stands for an ideal whose generators are polynomials over GF(p) in the variables of the ring.
+-- The name at this place stands for an ideal, whose generators are over GF(p) in the variables of the ring.
 pub record IsIdealAt (env : Env) (place : ℕ) : Type 0 where
   pub name : List ℕ
   pub gens : List PlainPolynomial
@@ -48,11 +42,11 @@ pub record IsIdealAt (env : Env) (place : ℕ) : Type 0 where
   pub low : All (λ g. All (λ t. total t.0 ≤ 2 ^ 40) g.terms) gens
   pub variables : All (λ g. UsesFirst (length env.vars) (polynomial g)) gens
 
--- The name stands for a polynomial over GF(p) in the variables of the ring.
-pub record IsPolyAt (env : Env) (place : ℕ) : Type 0 where
-  pub name : List ℕ
-  pub f : PlainPolynomial
-  pub stands : slice_get env.values place ≡ Some (name, values.Poly f)
-  pub ranks : HasRanksBelow env.p f
-  pub low : All (λ t. total t.0 ≤ 2 ^ 40) f.terms
-  pub variables : UsesFirst (length env.vars) (polynomial f)
+-- What is known of a question for parts in an accepted session.
+pub record IsPartsQuestion (env : Env) (e place : ℕ) : Type 0 where
+  pub prime : Contains primes env.p
+  pub small : e ≤ 12
+  pub poly : IsPolyAt env place
+
+abbrev pub IsPoly : Value → Type 0
+IsPoly value = (f : PlainPolynomial) × (value ≡ values.Poly f)
