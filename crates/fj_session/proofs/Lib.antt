@@ -5,6 +5,7 @@ pub mod Stops
 pub mod HighProducts
 pub mod OwnStops
 pub mod Made
+pub mod Printed
 pub mod Places
 pub mod Pieces
 pub mod Variables

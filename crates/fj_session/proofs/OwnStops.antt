@@ -35,14 +35,18 @@ module _ (F : Field) (env : Env) (question : Question) (budget : ℕ) where
   pub own_run : {T : Type 0} (L : List Polynomial) → IsOwnList F env question L → (r : Result T Stop) → StopsAsRun F L budget r → IfErr r (IsOwnStop F env question budget)
   own_run L list r h = run_stops F budget (λ o M. (o ≡ Grevlex) × IsOwnList F env question M) (IsHighProductOf F env question) Grevlex L (refl, list) r h
 
+  -- The run on a declared list of the question stops.
+  pub own_declared : (L : List Polynomial) → IsOwnList F env question L → (s : Stop) → IsRunStop F Grevlex L budget s → IsOwnStop F env question budget s
+  own_declared L list =
+      cause_of_more F budget (λ o M. (o ≡ Grevlex) × (M ≡ L)) (λ o M. (o ≡ Grevlex) × IsOwnList F env question M) (λ M. ⊥) (IsHighProductOf F env question)
+      (λ o M e. (e.0, subst (IsOwnList F env question) (sym e.1) list)) (λ M e. absurd e)
+
   -- The same where it is handed on.
   pub own_handed_on : {T : Type 0} (L : List Polynomial) → IsOwnList F env question L → (s : Stop) (r : Result T Stop) → IsErrAnd r (λ y. y ≡ s) → IsRunStop F Grevlex L budget s
       → IfErr r (IsOwnStop F env question budget)
   own_handed_on L list s r is h =
       handed_on (IsRunStop F Grevlex L budget) (IsOwnStop F env question budget) s r
-      (cause_of_more F budget (λ o M. (o ≡ Grevlex) × (M ≡ L)) (λ o M. (o ≡ Grevlex) × IsOwnList F env question M) (λ M. ⊥) (IsHighProductOf F env question)
-        (λ o M e. (e.0, subst (IsOwnList F env question) (sym e.1) list)) (λ M e. absurd e))
-      is h
+      (own_declared L list) is h
 
   -- The products of two bases are too high, or the run on them stops.
   pub own_products : {T : Type 0} (L M : List Polynomial) → (AreLow (products F L M) → IsOwnList F env question (products F L M))
