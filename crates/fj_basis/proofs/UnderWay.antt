@@ -1,27 +1,28 @@
 -- What each step of a division keeps, and that its end is a division.
-use Rattle.std.proofs.Common.{◌≡◌, ◌≢◌, ◌⊎◌, inl, inr, ℕ, ◌<◌, Bool, true, false, cond, IsTrue, List, [], ◌∷◌, ◌++◌, length, get_or, set, All, Option, Some, None, Greater, refl, sym, ap, ap₂, ◌∙◌, subst, arith, ⊎_elim, eq-zero-or-pos}
+use Rattle.std.proofs.Common.{◌≡◌, ◌≢◌, ◌⊎◌, inl, inr, ℕ, zero, suc, ◌+◌, ◌<◌, ◌≤◌, Bool, true, false, cond, IsTrue, List, [], ◌∷◌, ◌++◌, length, get_or, set, replicate, map, All, Option, Some, None, Ordering, Less, Equal, Greater, refl, sym, ap, ap₂, ◌∙◌, subst, subst₂, arith, ⊎_elim, eq-zero-or-pos}
 use Rattle.std.specs.FinMap.{empty}
-use Rattle.std.proofs.lemmas.List.{length-set, get_or-set_same, get_or-set_other}
+use Rattle.std.proofs.lemmas.List.{length-set, length-replicate, get_or-set_same, get_or-set_other, get_or-replicate}
+use Rattle.std.proofs.lemmas.List.Elements.{All-head}
 use Rattle.std.proofs.lemmas.Bool.{cases_order}
 use Rattle.fj_algebra.proofs.Lists.{All-map_back}
 use Rattle.fj_coeff.specs.Field.{Field, IsField}
-use Rattle.fj_theory.specs.Exponents.{IsExponents, plus, minus, divides}
+use Rattle.fj_theory.specs.Exponents.{IsExponents, total, plus, minus, divides}
 use Rattle.fj_theory.specs.MonomialOrder.{IsMonomialOrder, compare_by}
-use Rattle.fj_theory.specs.Polynomial.{Polynomial, IsPolynomial, coefficient, term, sum, terms_falling}
+use Rattle.fj_theory.specs.Polynomial.{Polynomial, IsPolynomial, IsTerm, coefficient, term, sum, terms_falling}
 use Rattle.fj_theory.specs.Ideal.{ArePolynomials}
 use Rattle.fj_theory.specs.Lead.{lead_exponents, lead_coefficient}
 use Rattle.fj_theory.specs.Steps.{StepsTo}
-use Rattle.fj_theory.specs.Division.{Sugared, Division, polynomials_of, member_at, first_divisor, step_by, cancel_lead, move_lead, IsDivisionStep}
+use Rattle.fj_theory.specs.Division.{Sugared, Division, polynomials_of, member_at, first_divisor, step_by, cancel_lead, move_lead, IsDivisionStep, IsDivision, IsLowDivision, IsHighDivision, division_start, degree_limit}
 use Rattle.fj_theory.proofs.Exponents.{IsExponents-minus, plus-minus, plus_comm}
 use Rattle.fj_theory.proofs.Field.{zero_below}
-use Rattle.fj_theory.proofs.FormalSum.{same, same_true}
 use Rattle.fj_theory.proofs.Lead.{IsExponents-lead, lead_coefficient-below, lead_coefficient-nonzero}
 use Rattle.fj_theory.proofs.MonomialOrder.{compare_by-plus}
-use Rattle.fj_theory.proofs.Polynomial.{coefficient-sum, coefficient-term, IsPolynomial-sum, IsPolynomial-term}
+use Rattle.fj_theory.proofs.Polynomial.{coefficient-empty, IsPolynomial-sum, IsPolynomial-term, IsPolynomial-empty}
 use Rattle.fj_theory.proofs.Terms.{terms_falling-exponents, terms_falling-IsFalling, falling_coefficients, from_entries-terms_falling, IsTerm-terms_falling}
 use Rattle.fj_theory.proofs.Division.{first_divisor-Some, IsDivisionStep-polynomial, IsDivisionStep-falls}
 use Rattle.fj_poly.proofs.Falling.{above_from_below, above_trans}
 use Rattle.fj_basis.specs.Quotients.{IsUnderWay}
+use Rattle.fj_basis.proofs.RowBounds.{sum-positive, term-positive}
 
 same_or_not : (j k : ℕ) → (j ≡ k) ⊎ (j ≢ k)
 same_or_not j k = ⊎_elim (λ e. inl e) (⊎_elim (λ l. inr (λ e. absurd (omega (arith, l, e)))) (λ l. inr (λ e. absurd (omega (arith, l, e))))) (cases_order j k)
@@ -40,24 +41,6 @@ module _ {F : Field} (L : IsField F) {key : List ℕ → List ℕ} (O : IsMonomi
       let T = IsTerm-terms_falling key P k d l in
       let positive = T.nonzero in
       omega (arith, own, positive)
-
-  -- A coefficient of a sum that isn't zero comes from one of the two.
-  sum-positive : (f g : Polynomial) (a : List ℕ) → 0 < coefficient (sum F f g) a → (0 < coefficient f a) ⊎ (0 < coefficient g a)
-  sum-positive f g a p = by (eq-zero-or-pos (coefficient f a)) (eq-zero-or-pos (coefficient g a))
-    where
-      by : (coefficient f a ≡ 0) ⊎ (0 < coefficient f a) → (coefficient g a ≡ 0) ⊎ (0 < coefficient g a) → (0 < coefficient f a) ⊎ (0 < coefficient g a)
-      by (inr q) o = inl q
-      by (inl z) (inr q) = inr q
-      by (inl z) (inl w) =
-          let none = coefficient-sum L f g a ∙ ap₂ F.add z w ∙ L.add_zero 0 (zero_below L) in
-          absurd (omega (arith, none, p))
-
-  term-positive : (c : ℕ) (a b : List ℕ) → 0 < coefficient (term c a) b → b ≡ a
-  term-positive c a b p = by (same b a) refl
-    where
-      by : (t : Bool) → same b a ≡ t → b ≡ a
-      by true e = same_true b a e
-      by false e = let none = coefficient-term c a b ∙ ap (λ t. cond t c 0) e in absurd (omega (arith, none, p))
 
   each : {M : List Polynomial} → ArePolynomials F M → (k : ℕ) → k < length M → IsPolynomial F (get_or M k empty)
   each A k l = A.each k empty l
@@ -128,7 +111,7 @@ module _ {F : Field} (L : IsField F) {key : List ℕ → List ℕ} (O : IsMonomi
 
         above_own : t.dividend ≢ empty → (b : List ℕ) → 0 < coefficient q b
             → compare_by key (plus b (lead_exponents key (member_at G k).polynomial)) (lead_exponents key t.dividend) ≡ Greater
-        above_own n b p = by (sum-positive (get_or s.quotients k empty) (term c a) b p)
+        above_own n b p = by (sum-positive L (get_or s.quotients k empty) (term c a) b p)
           where
             by : (0 < coefficient (get_or s.quotients k empty) b) ⊎ (0 < coefficient (term c a) b)
                 → compare_by key (plus b (lead_exponents key (member_at G k).polynomial)) (lead_exponents key t.dividend) ≡ Greater

@@ -1,5 +1,10 @@
 pub mod DivisionCode
 pub mod Left
 pub mod Quotients
+pub mod Members
+pub mod Place
+pub mod PlaceLaws
+pub mod State
 pub mod Outcome
+pub mod Finished
 pub mod Basis

@@ -8,6 +8,8 @@ use Rattle.fj_plain.specs.declared.order_name.OrderName.{OrderName}
 use Rattle.fj_plain.specs.declared.lists.Kept.{Kept}
 use Rattle.fj_basis.specs.declared.stop.Stop.{Stop}
 use Rattle.fj_basis.specs.declared.stop.Stop.TheVariants.{Pairs, High, Product, Memory}
+use Rattle.fj_basis.specs.declared.calculation.RunFault.{RunFault}
+use Rattle.fj_basis.specs.declared.calculation.RunFault.TheVariants as run
 
 -- What is kept is the list L of the run, and its order.
 pub record IsKeptOf (order : OrderName) (L : List Polynomial) (k : Kept) : Type 0 where
@@ -23,8 +25,20 @@ IsStopWhere P Q order L (Err (High k)) = Q × (P → ⊥) × IsKeptOf order L k
 IsStopWhere P Q order L (Err (Product k)) = ⊥
 IsStopWhere P Q order L (Err Memory) = Unit {0}
 
+-- The same of a fault, but for the list, and only that it comes where P or Q holds.
+abbrev pub IsFaultOnlyWhere : {T : Type 0} → Type 0 → Type 0 → Result T RunFault → Type 0
+IsFaultOnlyWhere P Q (Ok x) = Unit {0}
+IsFaultOnlyWhere P Q (Err run.Pairs) = P
+IsFaultOnlyWhere P Q (Err run.High) = Q
+IsFaultOnlyWhere P Q (Err run.Memory) = Unit {0}
+
 -- The answer is `High` only where P holds.
 abbrev pub IsHighOnlyWhere : {T : Type 0} → Type 0 → Result T PolyFault → Type 0
 IsHighOnlyWhere P (Ok x) = Unit {0}
 IsHighOnlyWhere P (Err product.High) = P
 IsHighOnlyWhere P (Err product.Memory) = Unit {0}
+
+-- A refused product as the fault of a run.
+abbrev pub run_fault : PolyFault → RunFault
+run_fault product.High = run.High
+run_fault product.Memory = run.Memory

@@ -1,16 +1,26 @@
-ghost use Rattle.std.specs.Prelude.{◌≡◌, IfOk, replicate};
+ghost use Rattle.std.specs.Prelude.{◌≡◌, ◌<◌, IfOk, OnOk, All, length, map, replicate, set};
 ghost use Rattle.std.specs.FinMap.{empty};
+ghost use Rattle.fj_theory.specs.Exponents.{origin};
+ghost use Rattle.fj_theory.specs.Ideal.{ArePolynomials};
+ghost use Rattle.fj_theory.specs.Polynomial.{negation, product, term};
+ghost use Rattle.fj_theory.specs.Division.{degree_limit};
+ghost use Rattle.fj_theory.specs.Rows.{add_multiple, add_multiples};
+ghost use Rattle.fj_poly.specs.Limit.{IsHigh};
+ghost use Rattle.fj_basis.specs.Outcome.{IsHighOnlyWhere};
+ghost use Rattle.fj_basis.specs.Quotients.{AreQuotientsWithin};
+ghost use Rattle.fj_basis.specs.Members.{IsRowWithin, sugared_members};
 
+use crate::members::{Member, Row};
 use fj_coeff::Coeff;
-use fj_mono::Order;
-use fj_poly::Poly;
+use fj_mono::{Mono, Order};
+use fj_poly::{Poly, PolyFault};
 use std::alloc::{AllocError, Global};
 
 /// A row of zeros.
 pub(crate) fn zero_row<K: Coeff, O: Order>(
     alloc: Global,
     count: usize,
-) -> Result<Vec<Poly<K, O>>, AllocError>
+) -> Result<Row<K, O>, AllocError>
     ensures { IfOk result (λ row. row.items ≡ replicate count empty) }
 {
     let mut row = Vec::with_capacity(alloc, count)?;
@@ -18,4 +28,79 @@ pub(crate) fn zero_row<K: Coeff, O: Order>(
         row.push(Poly::zero(alloc))?;
     }
     Ok(row)
+}
+
+/// The row of c times the polynomial at place j.
+pub(crate) fn row_of_one<K: Coeff, O: Order>(
+    alloc: Global,
+    c: K,
+    j: usize,
+    count: usize,
+) -> Result<Row<K, O>, AllocError>
+    requires { j < count }
+    ensures { IfOk result (λ row. row.items ≡ set (replicate count empty) j (term (K.rank c) origin)) }
+{
+    let mut row = zero_row(alloc, count)?;
+    row[j] = Poly::term(alloc, c, &Mono::one())?;
+    Ok(row)
+}
+
+/// Adds f times another row, entry by entry. No product has a term above the limit.
+pub(crate) fn add_multiple<K: Coeff, O: Order>(
+    alloc: Global,
+    row: &mut [Poly<K, O>],
+    f: &Poly<K, O>,
+    other: &[Poly<K, O>],
+) -> Result<(), PolyFault>
+    requires row { ArePolynomials K.field row.old }
+    requires other { ArePolynomials K.field other.now }
+    requires long { length other.now ≡ length row.old }
+    requires within { All (λ y. IsHigh (product K.field f.now y) → ⊥) other.now }
+    ensures value { OnOk result (row.new ≡ add_multiple K.field f.now row.old other.now) }
+    ensures high { IsHighOnlyWhere ⊥ result }
+{
+    for j in 0..row.len() {
+        if !other[j].is_zero() {
+            row[j] = row[j].add(alloc, &f.mul(alloc, &other[j])?)?;
+        }
+    }
+    Ok(())
+}
+
+/// Subtracts the row of each member times its quotient. No product has a term above the limit.
+pub(crate) fn subtract_multiples<K: Coeff, O: Order>(
+    alloc: Global,
+    row: &mut [Poly<K, O>],
+    quotients: &[Poly<K, O>],
+    members: &[Member<K, O>],
+) -> Result<(), PolyFault>
+    requires row { ArePolynomials K.field row.old }
+    requires rows { All (λ m. IsRowWithin K.field m.sugar (length row.old) m.row.items) members.now }
+    requires quotients { AreQuotientsWithin K.field (sugared_members members.now) degree_limit quotients.now }
+    ensures value { OnOk result (row.new ≡ add_multiples K.field (map (negation K.field) quotients.now) (map (λ m. m.row.items) members.now) row.old) }
+    ensures high { IsHighOnlyWhere ⊥ result }
+{
+    let minus_one = K::one().neg();
+    for k in 0..quotients.len() {
+        if !quotients[k].is_zero() {
+            let factor = quotients[k].scale(alloc, minus_one)?;
+            add_multiple(alloc, row, &factor, &members[k].row)?;
+        }
+    }
+    Ok(())
+}
+
+/// The row times c.
+pub(crate) fn scale_row<K: Coeff, O: Order>(
+    alloc: Global,
+    row: &[Poly<K, O>],
+    c: K,
+) -> Result<Row<K, O>, AllocError>
+    ensures { IfOk result (λ scaled. scaled.items ≡ map (product K.field (term (K.rank c) origin)) row.now) }
+{
+    let mut scaled = Vec::with_capacity(alloc, row.len())?;
+    for f in row {
+        scaled.push(f.scale(alloc, c)?)?;
+    }
+    Ok(scaled)
 }

@@ -151,6 +151,21 @@ impl<K: Coeff, O: Order> Division<K, O> {
         }
     }
 
+    /// The quotients, one for each member of the list.
+    pub(crate) fn quotients(&self) -> &[Poly<K, O>]
+        ensures { result.now ≡ self.now.quotients }
+    {
+        &self.quotients
+    }
+
+    /// The remainder, once nothing is left to be divided.
+    pub(crate) fn remainder(&self) -> &Poly<K, O>
+        requires { self.now.dividend ≡ empty }
+        ensures { result.now ≡ self.now.remainder }
+    {
+        &self.left
+    }
+
     /// The quotients, the remainder and its sugar, once nothing is left to be divided.
     pub(crate) fn into_parts(self) -> (Vec<Poly<K, O>>, Poly<K, O>, u64)
         requires { self.dividend ≡ empty }

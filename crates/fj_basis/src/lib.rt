@@ -1,11 +1,17 @@
-//! Stand-in: public contracts with bodies that give up.
+//! Division of polynomials, reduced Gröbner bases by Buchberger's algorithm with cofactors both ways, and their
+//! certificates.
 #![tactic(auto)]
 
 mod calculation;
+mod certificate;
 mod cofactors;
 mod division;
 mod divisor;
+mod finishing;
 mod handed;
+mod members;
+mod pairs;
+mod run;
 mod stop;
 pub mod types;
 
@@ -13,3 +19,6 @@ pub use calculation::basis;
 pub use division::divide;
 pub use stop::Stop;
 pub use types::copy_list;
+
+#[cfg(test)]
+mod tests;

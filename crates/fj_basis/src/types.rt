@@ -1,14 +1,16 @@
-ghost use Rattle.std.specs.Prelude.{◌≡◌, ◌<◌, IfOk, length};
+ghost use Rattle.std.specs.Prelude.{◌≡◌, ◌<◌, IfOk, All, length, map};
 ghost use Rattle.fj_plain.specs.Holds.{Holds};
 ghost use Rattle.fj_plain.specs.OrderRow.{order_in_row};
 ghost use Rattle.fj_basis.specs.Basis.{IsCertificateOf, IsMadeOf, cofactor};
 
 mod copy;
 
+use crate::certificate::{plain_list, plain_table};
+use crate::members::{Member, Row};
 pub use copy::copy_list;
 use fj_coeff::Coeff;
 use fj_mono::Order;
-use fj_plain::Cert;
+use fj_plain::{Cert, OrderName};
 use fj_poly::Poly;
 use std::alloc::{AllocError, Global};
 use std::marker::Model;
@@ -18,8 +20,8 @@ use std::marker::Model;
 #[derive(Drop)]
 pub struct Basis<K: Coeff, O: Order> {
     members: Vec<Poly<K, O>>,
-    down: Vec<Vec<Poly<K, O>>>,
-    up: Vec<Vec<Poly<K, O>>>,
+    down: Vec<Row<K, O>>,
+    up: Vec<Row<K, O>>,
 }
 
 impl<K: Coeff, O: Order> Model for Basis<K, O> {
@@ -36,6 +38,31 @@ impl<K: Coeff, O: Order> Model for Basis<K, O> {
 }
 
 impl<K: Coeff, O: Order> Basis<K, O> {
+    // The basis of the members of a finished run, with the cofactors of the given polynomials.
+    pub(crate) fn new(
+        alloc: Global,
+        members: Vec<Member<K, O>>,
+        up: Vec<Row<K, O>>,
+    ) -> Result<Basis<K, O>, AllocError>
+        requires down { All (λ m. length m.row.items ≡ length up.items) members.items }
+        requires up { All (λ row. length row.items ≡ length members.items) up.items }
+        ensures members { IfOk result (λ b. b.members ≡ map (λ m. m.polynomial) members.items) }
+        ensures down { IfOk result (λ b. b.down ≡ map (λ m. m.row.items) members.items) }
+        ensures up { IfOk result (λ b. b.up ≡ map (λ row. row.items) up.items) }
+    {
+        let mut polynomials = Vec::with_capacity(alloc, members.len())?;
+        let mut down = Vec::with_capacity(alloc, members.len())?;
+        for member in members {
+            polynomials.push(member.polynomial)?;
+            down.push(member.row)?;
+        }
+        Ok(Basis {
+            members: polynomials,
+            down,
+            up,
+        })
+    }
+
     /// The members, rising by lead.
     pub fn members(&self) -> &[Poly<K, O>]
         ensures { result.now ≡ self.now.members }
@@ -69,6 +96,13 @@ impl<K: Coeff, O: Order> Basis<K, O> {
         ensures value { IfOk result (IsCertificateOf K.P (order_in_row O.ROW) list.now self.now) }
         ensures holds { IfOk result Holds }
     {
-        Err(AllocError)
+        Ok(Cert::Basis {
+            p: K::P,
+            order: OrderName::of(O::ROW),
+            given: plain_list(alloc, list)?,
+            found: plain_list(alloc, &self.members)?,
+            down: plain_table(alloc, &self.down)?,
+            up: plain_table(alloc, &self.up)?,
+        })
     }
 }

@@ -1,13 +1,11 @@
 -- Meets and quotients of ideals of polynomials by elimination of the eighth variable.
-use Rattle.std.proofs.Common.{◌≡◌, ◌≢◌, ℕ, suc, ◌<◌, ◌≤◌, ◌==◌, Bool, true, false, cond, List, [], ◌∷◌, ◌++◌, length, get_or, map, filter, All, Some, refl, sym, ap, ap₂, ◌∙◌, subst, arith}
+use Rattle.std.proofs.Common.{◌≡◌, ◌≢◌, ℕ, suc, ◌<◌, ◌==◌, Bool, true, false, cond, List, [], ◌∷◌, ◌++◌, length, get_or, map, filter, All, Some, refl, sym, ap, ap₂, ◌∙◌, subst, arith}
 use Rattle.std.specs.Bool.{Decides}
 use Rattle.std.specs.FinMap.{empty, get, entries, get-entries}
 use Rattle.std.proofs.lemmas.List.{map-append}
 use Rattle.std.proofs.lemmas.List.Elements.{All-weaker, All-contains}
 use Rattle.std.proofs.lemmas.Bool.Decides.{nat_tests}
-use Rattle.std.proofs.lemmas.List.{get_or_past}
 use Rattle.std.proofs.lemmas.List.Sums.{AllPass-from_list_all, list_all-from_AllPass}
-use native.Mathlib.Decide.{dec_le}
 use Rattle.fj_coeff.specs.Field.{Field, IsField}
 use Rattle.fj_algebra.specs.Ring.{subtract}
 use Rattle.fj_algebra.specs.Ideal as ring_ideal
@@ -32,6 +30,7 @@ use Rattle.fj_theory.proofs.Keys.{elim_key-IsMonomialOrder, grevlex_key-IsMonomi
 use Rattle.fj_theory.proofs.PolynomialRing.{PolynomialOver, over_equal, polynomial_ring, map_zero, map_one}
 use Rattle.fj_theory.proofs.OrderedPolynomials.{Exponents, monomial_order, scalars, term_at, polynomials, ordered_polynomials}
 use Rattle.fj_theory.proofs.EighthVariable.{eighth, elim_eliminates, elim_grevlex_agree, eighth_exponent, eighth_list}
+use Rattle.fj_theory.proofs.UsesFirst.{UsesFirst-from_exponents}
 use Rattle.fj_theory.proofs.IdealBridge.{ArePolynomials-InRing, ArePolynomials-single, over, maps, in_ring, InRing, InRing-nil, InRing-cons, InRing-multiples, multiples_maps}
 use Rattle.fj_theory.proofs.Colon.{IsColon-append, Meet_over, Meet_map, Colon_map}
 use Rattle.fj_theory.proofs.ReducedBasis.{positive, positive_back, exponents_of, IsReducedBasis_polynomials, IsReducedBasis_over, IsReducedBasis_map}
@@ -74,11 +73,7 @@ module _ {F : Field} (L : IsField F) where
   lacks_over f u = record { within = λ a n. eighth_exponent a ∙ u.later a.list (positive L f a n) 7 (omega arith) }
 
   at_seven : {f : Polynomial} → IsPolynomial F f → ((a : List ℕ) → 0 < coefficient f a → get_or a 7 0 ≡ 0) → UsesFirst 7 f
-  at_seven {f} P z = record { later = λ a p i h. go a p i h (P.exponents a _ (get-coefficient f a p)).eight (dec_le 8 i) }
-    where
-      go : (a : List ℕ) → 0 < coefficient f a → (i : ℕ) → 7 ≤ i → length a ≡ 8 → Dec (8 ≤ i) → get_or a i 0 ≡ 0
-      go a p i h e (yes l) = get_or_past a i 0 (omega (arith, e, l))
-      go a p i h e (no n) = let seven : 7 ≡ i = omega (arith, h, n) in subst (λ k. get_or a k 0 ≡ 0) seven (z a p)
+  at_seven P z = UsesFirst-from_exponents P (λ i h l a p. let seven : 7 ≡ i = omega (arith, h, l) in subst (λ k. get_or a k 0 ≡ 0) seven (z a p))
 
   pub UsesFirst_from_lacks : (f : PolynomialOver F) → variable.Lacks (polynomials L) eighth_over f → UsesFirst 7 f.map
   unfolding polynomials eighth_over

@@ -122,7 +122,8 @@ grevlex_key-IsMonomialOrder = record {
   additive = λ a b A B. front_sums_zero-plus 8 a b (A.eight ∙ sym B.eight);
 }
 
-index-plus : (a b : List ℕ) (i : ℕ) → length a ≡ length b → slice_index (plus a b) i ≡ slice_index a i + slice_index b i
+-- The exponent of a product at a place.
+pub index-plus : (a b : List ℕ) (i : ℕ) → length a ≡ length b → slice_index (plus a b) i ≡ slice_index a i + slice_index b i
 unfolding plus
 index-plus [] [] i e = omega arith
 index-plus [] (y ∷ b) i e = absurd (omega arith)
@@ -150,4 +151,17 @@ elim_key-IsMonomialOrder = record {
   bounded = λ a A. All-cons (λ k. k ≤ total a) (slice_index a 7) (front_sums 7 a ++ 0 ∷ []) (index_bounded a 7) (front_sums_zero_bounded 7 a);
   injective = λ a b A B e. take_one_more 7 a b A.eight B.eight (front_sums_zero_take 7 a b (A.eight ∙ sym B.eight) (tails_same e)) (heads_same e);
   additive = λ a b A B. cons_same (index-plus a b 7 (A.eight ∙ sym B.eight)) (front_sums_zero-plus 7 a b (A.eight ∙ sym B.eight));
+}
+
+-- An order that eliminates the variable x_i: its exponent decides, and then Lex.
+unfoldable pub first_key : ℕ → List ℕ → List ℕ
+first_key i a = slice_index a i ∷ a
+
+pub first_key-IsMonomialOrder : (i : ℕ) → IsMonomialOrder (first_key i)
+unfolding first_key plus
+first_key-IsMonomialOrder i = record {
+  nine = λ a A. ap suc A.eight;
+  bounded = λ a A. All-cons (λ k. k ≤ total a) (slice_index a i) a (index_bounded a i) (entries_bounded a);
+  injective = λ a b A B e. tails_same e;
+  additive = λ a b A B. cons_same (index-plus a b i (A.eight ∙ sym B.eight)) refl;
 }

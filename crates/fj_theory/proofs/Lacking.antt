@@ -1,7 +1,7 @@
 -- Where a list lacks a variable, so does each reduced basis of its ideal.
-use Rattle.std.proofs.Common.{◌≡◌, ◌≢◌, ◌⊎◌, inl, inr, ℕ, zero, List, All, Contains, sym, ap, ap₂, ◌∙◌, subst, arith}
+use Rattle.std.proofs.Common.{◌≡◌, ◌≢◌, ◌⊎◌, inl, inr, ℕ, zero, List, get_or, All, Contains, sym, ap, ap₂, ◌∙◌, subst, arith}
 use native.Mathlib.Decide.{ℕ_discrete}
-use Rattle.std.proofs.lemmas.List.Elements.{All-weaker, All-map}
+use Rattle.std.proofs.lemmas.List.Elements.{All-map}
 use Rattle.fj_coeff.specs.Field.{Field, IsField}
 use Rattle.fj_algebra.specs.Ring.{subtract}
 use Rattle.fj_algebra.specs.Order.{Divides}
@@ -9,6 +9,7 @@ use Rattle.fj_algebra.specs.Polynomial.{OrderedPolynomials, IsLead}
 use Rattle.fj_algebra.specs.Buchberger.{IsReducible}
 use Rattle.fj_algebra.specs.ReducedBasis as basis
 use Rattle.fj_algebra.specs.Variable.{Variable, Eliminates, monomial_power, Lacks, IsPowerCoefficient}
+use Rattle.fj_algebra.proofs.Lists.{All-map_back}
 use Rattle.fj_algebra.proofs.Ring.{equal_from_subtract, subtract_self}
 use Rattle.fj_algebra.proofs.Ideal.{Member-subtract, Inside-Contains}
 use Rattle.fj_algebra.proofs.Order.{not_below_multiple, one_times, Divides-trans, Divides-refl}
@@ -17,19 +18,19 @@ use Rattle.fj_algebra.proofs.Polynomial.{Supported-zero, coefficient_zero, at_mo
 use Rattle.fj_algebra.proofs.Variable.{power_coefficient, coefficient_member, exponent_divides}
 use Rattle.fj_theory.specs.MonomialOrder.{IsMonomialOrder}
 use Rattle.fj_theory.specs.Polynomial.{Polynomial, IsPolynomial, product}
-use Rattle.fj_theory.specs.Ideal.{ArePolynomials}
+use Rattle.fj_theory.specs.Ideal.{ArePolynomials, multiples}
 use Rattle.fj_theory.specs.PointIdeal.{UsesFirst}
 use Rattle.fj_theory.specs.ReducedBasis.{IsReducedBasis}
 use Rattle.std.specs.FinMap.{empty}
 use Rattle.fj_algebra.proofs.Leads.{lead_product}
 use Rattle.fj_algebra.proofs.Elimination.{lacks_from_lead}
-use Rattle.fj_theory.proofs.Keys.{elim_key-IsMonomialOrder}
-use Rattle.fj_theory.proofs.EighthVariable.{elim_eliminates}
+use Rattle.fj_theory.proofs.Keys.{first_key-IsMonomialOrder}
 use Rattle.fj_theory.proofs.PolynomialRing.{polynomial_ring, map_zero, map_mul}
 use Rattle.fj_theory.proofs.OrderedPolynomials.{ordered_polynomials, polynomials}
 use Rattle.fj_theory.proofs.IdealBridge.{over, in_ring}
 use Rattle.fj_theory.proofs.ReducedBasis.{IsReducedBasis_polynomials, IsReducedBasis_over}
-use Rattle.fj_theory.proofs.Elimination.{lacks_over, all_lack, eighth_over, UsesFirst_from_lacks}
+use Rattle.fj_theory.proofs.UsesFirst.{variable_over, Lacks-UsesFirst, UsesFirst-Lacks, Lacks-InRing}
+use Rattle.fj_theory.proofs.Variables.{first_key_eliminates}
 
 module _ {K M A : Type 0} (P : OrderedPolynomials K M A) (t : Variable P.monomials) where
   open P use {coefficient, ring.{zero as 𝟘}, field.ring as scalars, monomials.{times}, order}
@@ -114,22 +115,27 @@ module _ {K M A : Type 0} (P : OrderedPolynomials K M A) (t : Variable P.monomia
           let sum = t.exponent_times a b in
           lacks_from_lead P t eliminates k (omega (arith, whole, sum))
 
--- A reduced basis of polynomials that use the first seven variables uses them alone.
-pub IsReducedBasis-UsesFirst : {key : List ℕ → List ℕ} (K : IsMonomialOrder key) {F : Field} (L : IsField F) {M G : List Polynomial} → ArePolynomials F M
-    → All (UsesFirst 7) M
-    → IsReducedBasis F key M G → All (UsesFirst 7) G
+-- A reduced basis of polynomials that use the first n variables uses them alone.
+pub IsReducedBasis-UsesFirst : {key : List ℕ → List ℕ} (K : IsMonomialOrder key) {F : Field} (L : IsField F) {n : ℕ} {M G : List Polynomial} → ArePolynomials F M
+    → All (UsesFirst n) M
+    → IsReducedBasis F key M G → All (UsesFirst n) G
 unfolding ordered_polynomials
-IsReducedBasis-UsesFirst K L {M} {G} A uses S =
+IsReducedBasis-UsesFirst K L {n} {M} {G} A uses S =
     let X = in_ring A in
     let Y = in_ring (IsReducedBasis_polynomials K L A S) in
-    subst (All (UsesFirst 7)) Y.are (All-map (UsesFirst 7) (λ f. f.map) Y.list
-    (All-weaker (Lacks (polynomials L) (eighth_over L)) (λ f. UsesFirst 7 f.map) (λ f l. UsesFirst_from_lacks L f l) Y.list
-    (reduced_basis_lacks (ordered_polynomials L K) (eighth_over L) (all_lack L X uses) (IsReducedBasis_over K L X Y S))))
+    subst (All (UsesFirst n)) Y.are (All-map (UsesFirst n) (λ f. f.map) Y.list
+    (λ k d h. UsesFirst-Lacks L (get_or Y.list k d) (λ i b l.
+    reduced_basis_lacks (ordered_polynomials L K) (variable_over L i b) (Lacks-InRing L i b l X uses) (IsReducedBasis_over K L X Y S) k d h)))
 
--- A factor of a polynomial that uses the first seven variables uses them alone.
-pub UsesFirst-product : {F : Field} (L : IsField F) {f g : Polynomial} → IsPolynomial F f → IsPolynomial F g → f ≢ empty → UsesFirst 7 (product F f g) → UsesFirst 7 g
-unfolding ordered_polynomials polynomials eighth_over
-UsesFirst-product {F} L A B n u =
-    UsesFirst_from_lacks L (over B)
-    (factor_lacks (ordered_polynomials L elim_key-IsMonomialOrder) (eighth_over L) elim_eliminates (λ e. n (ap (λ f. f.map) e ∙ map_zero L))
-    (lacks_over L ((polynomial_ring L).mul (over A) (over B)) (subst (UsesFirst 7) (sym (map_mul L (over A) (over B))) u)))
+-- A factor of a polynomial that uses the first n variables uses them alone.
+pub UsesFirst-factor : {F : Field} (L : IsField F) {n : ℕ} {f g : Polynomial} → IsPolynomial F f → IsPolynomial F g → f ≢ empty → UsesFirst n (product F f g) → UsesFirst n g
+unfolding ordered_polynomials polynomials variable_over
+UsesFirst-factor L {n} A B nonzero u =
+    let whole : UsesFirst n ((polynomial_ring L).mul (over A) (over B)).map = subst (UsesFirst n) (sym (map_mul L (over A) (over B))) u in
+    UsesFirst-Lacks L (over B) (λ i h l.
+    factor_lacks (ordered_polynomials L (first_key-IsMonomialOrder i)) (variable_over L i h) (first_key_eliminates i h) (λ e. nonzero (ap (λ f. f.map) e ∙ map_zero L))
+    (Lacks-UsesFirst L i h l ((polynomial_ring L).mul (over A) (over B)) whole))
+
+pub UsesFirst-factors : {F : Field} (L : IsField F) {n : ℕ} {f : Polynomial} {M : List Polynomial} → IsPolynomial F f → ArePolynomials F M → f ≢ empty
+    → All (UsesFirst n) (multiples F f M) → All (UsesFirst n) M
+UsesFirst-factors {F} L {n} {f} {M} A P nonzero all k d h = UsesFirst-factor L A (P.each k d h) nonzero (All-map_back (UsesFirst n) (product F f) M all k d h)

@@ -1,4 +1,6 @@
+pub mod Variables
 pub mod EighthVariable
+pub mod UsesFirst
 pub mod Exponents
 pub mod MonomialOrder
 pub mod Divisibility
@@ -52,6 +54,7 @@ pub mod Plain
 pub mod PlainProduct
 pub mod Certificate
 pub mod Rows
+pub mod IdealOperations
 pub mod DegreeOrder
 pub mod Trace
 pub mod Splitting

@@ -25,6 +25,7 @@ use Rattle.fj_theory.proofs.Ideal.{Member-Contains, Member-empty, Member-sum, Me
 use Rattle.fj_theory.proofs.Polynomial.{coefficient_below, coefficient-sum, coefficient-term, IsPolynomial-empty, IsPolynomial-term, IsPolynomial-sum}
 use Rattle.fj_theory.proofs.FormalSum.{same, same_itself, same_false}
 use Rattle.fj_theory.proofs.Monomial.{product_terms, sum_terms, term_zero, polynomial_induction}
+use Rattle.fj_theory.proofs.Variables.{zeros_plus, IsExponents-variable}
 use Rattle.fj_theory.proofs.Evaluation.{value_below, value-empty, value-sum, value-term, value-negation, Member-IsZeroOf, monomial_value-zeros, monomial_value-origin, monomial_value-plus, monomial_value_below}
 
 -- Either all exponents are zero, or one is not.
@@ -40,11 +41,6 @@ find_positive (k ∷ a) = by (eq-zero-or-pos k) (find_positive a)
 -- One less at the place i.
 lower : List ℕ → ℕ → List ℕ
 lower a i = set a i (get_or a i 0 - 1)
-
-zeros_plus : (a : List ℕ) → plus (replicate (length a) 0) a ≡ a
-unfolding plus
-zeros_plus [] = refl
-zeros_plus (k ∷ a) = cons_same (omega arith) (zeros_plus a)
 
 split_at : (a : List ℕ) (i : ℕ) → 0 < get_or a i 0 → plus (set (replicate (length a) 0) i 1) (lower a i) ≡ a
 unfolding lower plus
@@ -72,10 +68,6 @@ lower_later n a i h later j g = let apart : j ≢ i = omega arith in get_or-set_
 IsExponents-lower : {a : List ℕ} → IsExponents a → (i : ℕ) → IsExponents (lower a i)
 unfolding lower
 IsExponents-lower {a} A i = record { eight = length-set a i _ ∙ A.eight }
-
-IsExponents-variable : (i : ℕ) → IsExponents (variable_exponents i)
-unfolding variable_exponents
-IsExponents-variable i = record { eight = length-set origin i 1 ∙ IsExponents-origin.eight }
 
 variable_plus_lower : {a : List ℕ} → IsExponents a → (i : ℕ) → 0 < get_or a i 0 → plus (variable_exponents i) (lower a i) ≡ a
 unfolding variable_exponents origin

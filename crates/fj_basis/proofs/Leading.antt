@@ -1,0 +1,231 @@
+-- Members of a run, their leads and their multiples.
+use Rattle.std.proofs.Common.{◌≡◌, ◌≢◌, ℕ, suc, ◌+◌, ◌-◌, ◌^◌, ◌<◌, ◌≤◌, max, List, [], ◌∷◌, ◌++◌, length, length-append, get_or, map, All, IsTrue, Option, Some, None, is_some, true, Result, Ok, Err, refl, sym, ap, ap₂, ◌∙◌, subst, subst₂, arith}
+use Rattle.std.specs.FinMap.{empty}
+use Rattle.std.proofs.lemmas.List.{length-map, get_or-map, get_or_default, get_or_append_left, get_or_push}
+use Rattle.std.proofs.lemmas.List.Elements.{All-map, All-weaker}
+use Rattle.fj_algebra.proofs.Lists.{All-map_back}
+use Rattle.fj_coeff.specs.Field.{Field, IsField}
+use Rattle.fj_theory.specs.Exponents.{IsExponents, total, minus, divides, least_common_multiple}
+use Rattle.fj_theory.specs.MonomialOrder.{IsMonomialOrder}
+use Rattle.fj_theory.specs.Polynomial.{Polynomial, IsPolynomial, coefficient, product, term}
+use Rattle.fj_theory.specs.Ideal.{ArePolynomials}
+use Rattle.fj_theory.specs.Lead.{lead_exponents, lead_coefficient}
+use Rattle.fj_theory.specs.Rows.{add_multiple, add_multiples}
+use Rattle.fj_theory.specs.Division.{Sugared, polynomials_of, member_at, AreWithinSugars, DegreeAtMost, degree_limit, difference}
+use Rattle.fj_theory.specs.Run.{lead_of, pair_multiple, s_polynomial, IsRun}
+use Rattle.fj_theory.specs.Run as definition
+use Rattle.fj_theory.proofs.Exponents.{IsExponents-minus, plus-minus, total-plus_exponents}
+use Rattle.fj_theory.proofs.Field.{one_below}
+use Rattle.fj_theory.proofs.IdealBridge.{in_ring}
+use Rattle.fj_theory.proofs.Lead.{IsExponents-lead, coefficient-lead, lead_coefficient-nonzero, nonzero-lead_coefficient}
+use Rattle.fj_theory.proofs.Multiple.{divides-least_common_multiple_left, divides-least_common_multiple_right}
+use Rattle.fj_theory.proofs.Run.{IsRun-IsKept, IsRun-polynomials, IsRun-monic, s_polynomial-IsPolynomial}
+use Rattle.fj_theory.proofs.Sugar.{IsRun-AreWithinSugars, s_polynomial-DegreeAtMost}
+use Rattle.fj_mono.specs.Monomial.{Monomial}
+use Rattle.fj_poly.specs.Limit.{IsHigh, IsHighWhere}
+use Rattle.fj_poly.specs.declared.fault.PolyFault.{PolyFault}
+use Rattle.fj_poly.specs.declared.fault.PolyFault.TheVariants.{High, Memory}
+use Rattle.fj_basis.specs.declared.members.Member.{Member}
+use Rattle.fj_basis.specs.Members.{sugared, sugared_members, IsRowWithin, IsTraced}
+use Rattle.fj_basis.specs.Finished.{AreMembersOfRun}
+use Rattle.fj_basis.specs.State.{IsPairOf, row_at, s_polynomial_row}
+use Rattle.fj_basis.specs.Place.{IsWithinLimit}
+use Rattle.fj_basis.specs.declared.pairs.Pair.{Pair}
+use Rattle.fj_basis.specs.Outcome.{IsHighOnlyWhere}
+use Rattle.fj_basis.proofs.DivisionSteps.{member_at-map}
+use Rattle.fj_basis.proofs.Multiples.{product_term-low}
+
+-- Where no term is high no fault is.
+pub never_high : (Q : Type 0) {T P : Type 0} (r : Result T PolyFault) → IsHighWhere P r → (P → ⊥) → IsHighOnlyWhere Q r
+never_high Q (Ok x) h n = tt
+never_high Q (Err High) h n = absurd (n h)
+never_high Q (Err Memory) h n = tt
+
+-- What is known of the members of a run.
+pub record AreGood (F : Field) (key : List ℕ → List ℕ) (G : List Sugared) : Type 0 where
+  pub polynomials : ArePolynomials F (polynomials_of G)
+  pub monic : All (λ g. lead_coefficient key g ≡ 1) (polynomials_of G)
+  pub nonzero : All (λ g. g ≢ empty) (polynomials_of G)
+  pub within : AreWithinSugars G
+  pub s_is : (i j : ℕ) → IsPolynomial F (s_polynomial F key G (i, j)).polynomial
+  pub s_within : (i j : ℕ) → i < length G → j < length G → DegreeAtMost (s_polynomial F key G (i, j)).sugar (s_polynomial F key G (i, j)).polynomial
+
+-- The member at a place of the code's list.
+pub member_is : {K O : Type 0} (members : List (Member K O)) (k : ℕ) (m : Member K O) → k < length members → m ≡ get_or members k m → member_at (sugared_members members) k ≡ sugared m
+member_is members k m l is = member_at-map sugared members k m l is
+
+pub nonzero_members : {K O : Type 0} (members : List (Member K O)) → All (λ g. g ≢ empty) (polynomials_of (sugared_members members)) → All (λ m. m.polynomial ≢ empty) members
+nonzero_members members all = All-map_back (λ g. g.polynomial ≢ empty) sugared members (All-map_back (λ g. g ≢ empty) (λ g. g.polynomial) (sugared_members members) all)
+
+module _ {F : Field} (L : IsField F) {key : List ℕ → List ℕ} (O : IsMonomialOrder key) where
+  pub IsRun-AreGood : {N : List Polynomial} → ArePolynomials F N → {turns : ℕ} {s : definition.Run} → IsRun F key N turns s → AreGood F key s.members
+  IsRun-AreGood A {s = s} r =
+      let monic = IsRun-monic O L A r in
+      let within = IsRun-AreWithinSugars L O A r in
+      let kept = IsRun-IsKept O L (in_ring A) r in
+      let are = IsRun-polynomials O L A r in
+      record {
+        polynomials = are;
+        monic = monic;
+        nonzero = λ k d l e. nonzero-lead_coefficient O (are.each k d l) (let one = monic k d l in omega (arith, one)) e;
+        within = within;
+        s_is = s_polynomial-IsPolynomial O L (in_ring A).list s kept;
+        s_within = s_polynomial-DegreeAtMost L O (in_ring A).list s kept within;
+      }
+
+  module _ (G : List Sugared) (good : AreGood F key G) where
+    -- A lead's total is at most the sugar.
+    pub lead-total : (k : ℕ) → k < length G → total (lead_of key G k) ≤ (member_at G k).sugar
+    unfolding lead_of member_at
+    lead-total k l =
+        let d : Sugared = record { polynomial = empty; sugar = 0 } in
+        let P = All-map_back (IsPolynomial F) (λ g. g.polynomial) G good.polynomials.each k d l in
+        let some = All-map_back (λ g. g ≢ empty) (λ g. g.polynomial) G good.nonzero k d l in
+        let own = coefficient-lead O P in
+        let positive = lead_coefficient-nonzero O P some in
+        (good.within k d l).within (lead_exponents key (get_or G k d).polynomial) (omega (arith, own, positive))
+
+    -- The multiple of a member whose lead is the monomial is not high, where its sugar is not.
+    pub multiple-low : (k : ℕ) → k < length G → (m : List ℕ) → IsExponents m → IsTrue (divides (lead_of key G k) m)
+        → ((member_at G k).sugar - total (lead_of key G k)) + total m ≤ degree_limit → IsHigh (product F (term 1 (minus m (lead_of key G k))) (member_at G k).polynomial) → ⊥
+    unfolding lead_of member_at
+    multiple-low k l m M d low =
+        let e : Sugared = record { polynomial = empty; sugar = 0 } in
+        let P = All-map_back (IsPolynomial F) (λ g. g.polynomial) G good.polynomials.each k e l in
+        let B = IsExponents-lead O P in
+        let whole = sym (total-plus_exponents B (IsExponents-minus M B)) ∙ ap total (plus-minus B M d) in
+        let bound = lead-total k l in
+        product_term-low L P 1 (one_below L) (IsExponents-minus M B) (get_or G k e).sugar (good.within k e l) (omega (arith, whole, bound, low))
+
+    pub lead-exponents : (k : ℕ) → k < length G → IsExponents (lead_of key G k)
+    unfolding lead_of member_at
+    lead-exponents k l = IsExponents-lead O (All-map_back (IsPolynomial F) (λ g. g.polynomial) G good.polynomials.each k (record { polynomial = empty; sugar = 0 }) l)
+
+    -- The leads of a pair divide their least common multiple.
+    pub first-divides : (i j : ℕ) → i < length G → j < length G → IsTrue (divides (lead_of key G i) (pair_multiple key G (i, j)))
+    unfolding pair_multiple
+    first-divides i j l m = divides-least_common_multiple_left _ _ ((lead-exponents i l).eight ∙ sym (lead-exponents j m).eight)
+
+    pub second-divides : (i j : ℕ) → i < length G → j < length G → IsTrue (divides (lead_of key G j) (pair_multiple key G (i, j)))
+    unfolding pair_multiple
+    second-divides i j l m = divides-least_common_multiple_right _ _ ((lead-exponents i l).eight ∙ sym (lead-exponents j m).eight)
+
+    -- The products with the cofactors of a member are not high either.
+    pub row-low : (k : ℕ) → k < length G → (m : List ℕ) → IsExponents m → IsTrue (divides (lead_of key G k) m)
+        → ((member_at G k).sugar - total (lead_of key G k)) + total m ≤ degree_limit → (c : ℕ) → c < F.size → (row : List Polynomial) → ArePolynomials F row
+        → All (DegreeAtMost (member_at G k).sugar) row → All (λ y. IsHigh (product F (term c (minus m (lead_of key G k))) y) → ⊥) row
+    row-low k l m M d low c h row are within i e n =
+        let B = lead-exponents k l in
+        let whole = sym (total-plus_exponents B (IsExponents-minus M B)) ∙ ap total (plus-minus B M d) in
+        let bound = lead-total k l in
+        product_term-low L (are.each i e n) c h (IsExponents-minus M B) (member_at G k).sugar (within i e n) (omega (arith, whole, bound, low))
+
+  -- The members of a state are good.
+  pub state-good : {K R : Type 0} {members : List (Member K R)} → AreMembersOfRun F key members → AreGood F key (sugared_members members)
+  state-good h = subst (AreGood F key) h.are (IsRun-AreGood h.given h.run)
+
+pub places : {K R : Type 0} (members : List (Member K R)) (k : ℕ) → k < length members → k < length (sugared_members members)
+places members k l = omega (arith, l, length-map members sugared)
+
+-- The lead at a place of the code's list.
+pub lead_of-is : {K R : Type 0} (key : List ℕ → List ℕ) (members : List (Member K R)) (k : ℕ) (m : Member K R) → k < length members → m ≡ get_or members k m
+    → lead_of key (sugared_members members) k ≡ lead_exponents key m.polynomial
+unfolding lead_of
+lead_of-is key members k m l is = ap (λ x. lead_exponents key x.polynomial) (member_is members k m l is)
+
+pub nonzero_at : {K R : Type 0} (members : List (Member K R)) → All (λ m. m.polynomial ≢ empty) members → (k : ℕ) (m : Member K R) → k < length members → m ≡ get_or members k m → m.polynomial ≢ empty
+nonzero_at members all k m l is e = all k m l (ap (λ x. x.polynomial) (sym is) ∙ e)
+
+pub traced_at : {K R : Type 0} {F : Field} {N : List Polynomial} (members : List (Member K R)) → All (IsTraced F N) members → (k : ℕ) (m : Member K R) → k < length members → m ≡ get_or members k m
+    → IsTraced F N m
+traced_at {F = F} {N = N} members all k m l is = subst (IsTraced F N) (sym is) (all k m l)
+
+-- The cofactors of the member at a place.
+pub row_at-is : {K R : Type 0} (members : List (Member K R)) (k : ℕ) (m : Member K R) → k < length members → m ≡ get_or members k m → row_at members k ≡ m.row.items
+unfolding row_at
+row_at-is members k m l is = get_or-map (λ x. x.row.items) members k m [] l ∙ ap (λ x. x.row.items) (sym is)
+
+-- The parts of an S-polynomial.
+pub s-sugar : (F : Field) (key : List ℕ → List ℕ) (G : List Sugared) (i j : ℕ)
+    → (s_polynomial F key G (i, j)).sugar ≡ max ((member_at G i).sugar - total (lead_of key G i)) ((member_at G j).sugar - total (lead_of key G j)) + total (pair_multiple key G (i, j))
+unfolding s_polynomial
+s-sugar F key G i j = refl
+
+-- Where the sugar of an S-polynomial is within the limit, so is the least common multiple.
+pub some_multiple : {R : Type 0} (F : Field) (key : List ℕ → List ℕ) (G : List Sugared) (p : Pair R) → IsPairOf key G p → (s_polynomial F key G (p.i, p.j)).sugar ≤ degree_limit
+    → (o : Option Monomial) → o ≡ p.multiple → is_some o ≡ true
+some_multiple F key G p own low (Some m) e = refl
+some_multiple F key G p own low None e =
+    let high : degree_limit < total (pair_multiple key G (p.i, p.j)) = subst (IsWithinLimit (pair_multiple key G (p.i, p.j))) (sym e) own.multiple in
+    absurd (omega (arith, s-sugar F key G p.i p.j, high, low))
+
+pub multiple_is : {R : Type 0} (key : List ℕ → List ℕ) (G : List Sugared) (p : Pair R) → IsPairOf key G p → (m : Monomial) → Some m ≡ p.multiple → m.exponents ≡ pair_multiple key G (p.i, p.j)
+multiple_is key G p own m e = subst (IsWithinLimit (pair_multiple key G (p.i, p.j))) (sym e) own.multiple
+
+-- The pair of a member that is appended with an earlier one.
+pub pair_of-appended : {K R : Type 0} (key : List ℕ → List ℕ) (members : List (Member K R)) (new m : Member K R) (i : ℕ) (p : Pair R) → i < length members → m ≡ get_or members i m
+    → p.i ≡ i → p.j ≡ length members → IsWithinLimit (least_common_multiple (lead_exponents key m.polynomial) (lead_exponents key new.polynomial)) p.multiple
+    → IsPairOf key (sugared_members (members ++ new ∷ [])) p
+unfolding pair_multiple
+pair_of-appended key members new m i p l is is_i is_j within =
+    let long = length-append members (new ∷ []) in
+    let first = lead_of-is key (members ++ new ∷ []) i m (omega (arith, l, long)) (is ∙ sym (get_or_append_left members (new ∷ []) m i l)) in
+    let second = lead_of-is key (members ++ new ∷ []) (length members) new (omega (arith, long)) (sym (get_or_push members new new (length members) refl)) in
+    record {
+      multiple = subst (λ a. IsWithinLimit a p.multiple)
+          (ap₂ least_common_multiple (sym first ∙ ap (lead_of key (sugared_members (members ++ new ∷ []))) (sym is_i)) (sym second ∙ ap (lead_of key (sugared_members (members ++ new ∷ []))) (sym is_j))) within;
+    }
+
+-- Its polynomial.
+pub s-polynomial : (F : Field) (key : List ℕ → List ℕ) (G : List Sugared) (i j : ℕ)
+    → (s_polynomial F key G (i, j)).polynomial
+    ≡ difference F (product F (term 1 (minus (pair_multiple key G (i, j)) (lead_of key G i))) (member_at G i).polynomial) (product F (term 1 (minus (pair_multiple key G (i, j)) (lead_of key G j))) (member_at G j).polynomial)
+unfolding s_polynomial
+s-polynomial F key G i j = refl
+
+pub s-is : (F : Field) (key : List ℕ → List ℕ) (G : List Sugared) (i j : ℕ) (f : Polynomial) (n : ℕ) → f ≡ (s_polynomial F key G (i, j)).polynomial → n ≡ (s_polynomial F key G (i, j)).sugar
+    → record { polynomial = f; sugar = n } ≡ s_polynomial F key G (i, j)
+s-is F key G i j f n e h = λ x. record { polynomial = e x; sugar = h x }
+
+-- The rows of the members of a state.
+module _ {K R : Type 0} {F : Field} {N : List Polynomial} where
+  pub row-traced : (members : List (Member K R)) → All (IsTraced F N) members → (k : ℕ) → k < length members → IsRowWithin F (member_at (sugared_members members) k).sugar (length N) (row_at members k)
+  unfolding row_at
+  row-traced [] all k l = absurd (omega (arith, l))
+  row-traced (x ∷ members) all k l =
+      let m = get_or (x ∷ members) k x in
+      let t = all k x l in
+      let is = get_or-map (λ y. y.row.items) (x ∷ members) k x [] l in
+      let own : member_at (sugared_members (x ∷ members)) k ≡ sugared m = member_is (x ∷ members) k m l (get_or_default (x ∷ members) k x m l) in
+      subst (IsRowWithin F (member_at (sugared_members (x ∷ members)) k).sugar (length N)) (sym is) (record {
+        polynomials = t.row.polynomials;
+        long = t.row.long;
+        within = subst (λ n. All (DegreeAtMost n) m.row.items) (sym (ap (λ g. g.sugar) own)) t.within;
+      })
+
+  pub rows-within : (members : List (Member K R)) → All (IsTraced F N) members → All (λ m. IsRowWithin F m.sugar (length N) m.row.items) members
+  rows-within members all k d l =
+      let t = all k d l in
+      record { polynomials = t.row.polynomials; long = t.row.long; within = t.within }
+
+-- One row added to another, its parts put otherwise.
+pub same_step : {K R : Type 0} (F : Field) (key : List ℕ → List ℕ) (members : List (Member K R)) {c d k l : ℕ} {a b : List ℕ} {s t : List Polynomial} → c ≡ d → k ≡ l → a ≡ b → s ≡ t
+    → add_multiple F (term c (minus a (lead_of key (sugared_members members) k))) s (row_at members k) ≡ add_multiple F (term d (minus b (lead_of key (sugared_members members) l))) t (row_at members l)
+same_step F key members ec ek ea es = λ i. add_multiple F (term (ec i) (minus (ea i) (lead_of key (sugared_members members) (ek i)))) (es i) (row_at members (ek i))
+
+pub length-added_row : (F : Field) (f : Polynomial) (xs ys : List Polynomial) → length (add_multiple F f xs ys) ≡ length xs
+unfolding add_multiple
+length-added_row F f [] ys = refl
+length-added_row F f (x ∷ xs) [] = refl
+length-added_row F f (x ∷ xs) (y ∷ ys) = ap suc (length-added_row F f xs ys)
+
+pub length-added_rows : (F : Field) (fs : List Polynomial) (rows : List (List Polynomial)) (first : List Polynomial) → length (add_multiples F fs rows first) ≡ length first
+unfolding add_multiples
+length-added_rows F [] rows first = refl
+length-added_rows F (f ∷ fs) [] first = refl
+length-added_rows F (f ∷ fs) (row ∷ rows) first = length-added_rows F fs rows (add_multiple F f first row) ∙ length-added_row F f first row
+
+pub length-s_row : {K R : Type 0} (F : Field) (key : List ℕ → List ℕ) (members : List (Member K R)) (start : List Polynomial) (pair : ℕ × ℕ) (quotients : List Polynomial)
+    → length (s_polynomial_row F key members start pair quotients) ≡ length start
+unfolding s_polynomial_row
+length-s_row F key members start pair quotients = length-added_rows F _ _ _ ∙ length-added_row F _ _ _ ∙ length-added_row F _ start _

@@ -1,0 +1,220 @@
+-- The member that a pair of a run gives.
+use Rattle.std.proofs.Common.{◌≡◌, ◌≢◌, ℕ, zero, suc, ◌+◌, ◌-◌, ◌<◌, ◌≤◌, max, Option, Some, None, List, [], ◌∷◌, get_or, length, map, replicate, All, IsTrue, refl, sym, ap, ap₂, ◌∙◌, subst, subst₂, arith}
+use Rattle.std.specs.FinMap.{empty}
+use Rattle.std.proofs.lemmas.List.{get_or_default}
+use Rattle.std.proofs.lemmas.List.Elements.{All-map, All-replicate, All-weaker}
+use Rattle.fj_coeff.specs.Field.{Field, IsField}
+use Rattle.fj_theory.specs.Exponents.{IsExponents, divides, minus, origin, total}
+use Rattle.fj_theory.specs.MonomialOrder.{IsMonomialOrder}
+use Rattle.fj_theory.specs.Polynomial.{Polynomial, IsPolynomial, coefficient, negation, product, sum, term}
+use Rattle.fj_theory.specs.Ideal.{ArePolynomials}
+use Rattle.fj_theory.specs.Lead.{lead_coefficient, lead_exponents, made_monic}
+use Rattle.fj_theory.specs.Rows.{IsRow, add_multiple, add_multiples}
+use Rattle.fj_theory.specs.Steps.{StepsTo}
+use Rattle.fj_theory.specs.Division.{DegreeAtMost, Division, IsDivisionStep, IsHighDivision, IsLowDivision, IsWithinSugar, Sugared, cancel_lead, degree_limit, difference, division_start, first_divisor, member_at, move_lead, polynomials_of, step_by}
+use Rattle.fj_theory.specs.Run.{lead_of, monic_member, pair_multiple, s_polynomial}
+use Rattle.fj_theory.proofs.Degree.{product_nonzero}
+use Rattle.fj_theory.proofs.Division.{IsDivision-quotients, IsDivision-remainder_polynomial}
+use Rattle.fj_theory.proofs.Exponents.{IsExponents-minus, IsExponents-origin, plus-minus, total_origin, total-plus_exponents}
+use Rattle.fj_theory.proofs.Field.{one_below, zero_below}
+use Rattle.fj_theory.proofs.IdealBridge.{ArePolynomials-head, ArePolynomials-tail}
+use Rattle.fj_theory.proofs.Lead.{lead_coefficient-below, lead_coefficient-nonzero}
+use Rattle.fj_theory.proofs.Multiple.{length-least_common_multiple}
+use Rattle.fj_theory.proofs.Polynomial.{coefficient-empty, coefficient-term_same, IsPolynomial-empty, IsPolynomial-term}
+use Rattle.fj_theory.proofs.PolynomialRing.{sum_comm, sum_empty}
+use Rattle.fj_theory.proofs.Product.{IsPolynomial-product}
+use Rattle.fj_theory.proofs.Rows.{IsRow-add_multiple, IsRow-remainder, IsRow-zero}
+use Rattle.fj_theory.proofs.Steps.{StepsTo-keeps}
+use Rattle.fj_theory.proofs.Sugar.{DegreeAtMost-made_monic, StepsTo-IsWithinSugar}
+use Rattle.fj_basis.specs.declared.members.Member.{Member}
+use Rattle.fj_basis.specs.Members.{IsTraced, sugared, sugared_members}
+use Rattle.fj_basis.specs.State.{IsNextMember, row_at, s_polynomial_row}
+use Rattle.fj_basis.proofs.UnderWay.{member-polynomial}
+use Rattle.fj_basis.proofs.Leading.{member_is, row_at-is, AreGood, first-divides, lead-exponents, lead-total, places, row-traced, s-polynomial, s-sugar, second-divides}
+use Rattle.fj_basis.proofs.Multiples.{product_term-negation, quotient_nonzero}
+use Rattle.fj_basis.proofs.RowBounds.{DegreeAtMost-add_multiple, DegreeAtMost-empty, DegreeAtMost-more, DegreeAtMost-product, DegreeAtMost-subtracted, term-positive, traced-AreRows}
+
+-- The sugar of a division doesn't fall.
+module _ (F : Field) (key : List ℕ → List ℕ) (G : List Sugared) where
+  step-sugar : (s t : Division) → IsDivisionStep F key G s t → s.sugar ≤ t.sugar
+  unfolding step_by cancel_lead move_lead
+  step-sugar s t h = by (first_divisor key G (lead_exponents key s.dividend)) h.next
+    where
+      by : (o : Option ℕ) → t ≡ step_by F key G o s → s.sugar ≤ t.sugar
+      by None e = let is = ap (λ d. d.sugar) e in omega (arith, is)
+      by (Some k) e = let is = ap (λ d. d.sugar) e in omega (arith, is)
+
+  pub sugar-rises : (h : Sugared) (states : List Division) (last : Division) → StepsTo (IsDivisionStep F key G) (division_start G h) states last → h.sugar ≤ last.sugar
+  unfolding division_start
+  sugar-rises h states last steps =
+      StepsTo-keeps (IsDivisionStep F key G) (λ d. h.sugar ≤ d.sugar) (λ s t step l. let rises = step-sugar s t step in omega (arith, rises, l)) states (division_start G h) last steps (omega arith)
+
+-- A row times a factor is its multiple added to zeros.
+zero-sum : {F : Field} (L : IsField F) {f : Polynomial} → IsPolynomial F f → sum F empty f ≡ f
+zero-sum {F} L P = sum_comm L (IsPolynomial-empty F) P ∙ sum_empty L P
+
+module _ {F : Field} (L : IsField F) {c : Polynomial} (C : IsPolynomial F c) where
+  add-zeros : (n : ℕ) (row : List Polynomial) → length row ≡ n → ArePolynomials F row → add_multiple F c (replicate n empty) row ≡ map (product F c) row
+  unfolding add_multiple
+  add-zeros zero [] l A = refl
+  add-zeros zero (y ∷ row) l A = absurd (omega (arith, l))
+  add-zeros (suc n) [] l A = absurd (omega (arith, l))
+  add-zeros (suc n) (y ∷ row) l A = ap₂ ◌∷◌ (zero-sum L (IsPolynomial-product L C (ArePolynomials-head A))) (add-zeros n row (omega (arith, l)) (ArePolynomials-tail A))
+
+  pub IsRow-scaled : {N : List Polynomial} → ArePolynomials F N → {f : Polynomial} {row : List Polynomial} → IsPolynomial F f → IsRow F N f row → IsRow F N (product F c f) (map (product F c) row)
+  IsRow-scaled {N} A {f} {row} P r =
+      subst₂ (IsRow F N) (zero-sum L (IsPolynomial-product L C P)) (add-zeros (length N) row r.long r.polynomials) (IsRow-add_multiple L A C (IsRow-zero L N A) r)
+
+-- The row of a member.
+row-IsRow : {K R : Type 0} {F : Field} {N : List Polynomial} (members : List (Member K R)) → All (IsTraced F N) members → (k : ℕ) → k < length members
+    → IsRow F N (member_at (sugared_members members) k).polynomial (row_at members k)
+row-IsRow [] all k l = absurd (omega (arith, l))
+row-IsRow {F = F} {N = N} (x ∷ members) all k l =
+    let m = get_or (x ∷ members) k x in
+    let is = get_or_default (x ∷ members) k x m l in
+    subst₂ (IsRow F N) (sym (ap (λ g. g.polynomial) (member_is (x ∷ members) k m l is))) (sym (row_at-is (x ∷ members) k m l is)) (all k x l).row
+
+-- The cofactors of the next member.
+module _ {K R : Type 0} {F : Field} (L : IsField F) {key : List ℕ → List ℕ} (O : IsMonomialOrder key) {N : List Polynomial} (A : ArePolynomials F N) (members : List (Member K R))
+    (good : AreGood F key (sugared_members members)) (traced : All (IsTraced F N) members) (i j : ℕ) (l : i < length members) (m : j < length members) where
+  abbrev G : List Sugared
+  G = sugared_members members
+
+  abbrev s : Sugared
+  s = s_polynomial F key G (i, j)
+
+  abbrev multiple : List ℕ
+  multiple = pair_multiple key G (i, j)
+
+  abbrev factor : ℕ → ℕ → Polynomial
+  factor c k = term c (minus multiple (lead_of key G k))
+
+  abbrev first_row : List Polynomial
+  first_row = add_multiple F (factor 1 i) (replicate (length (row_at members i)) empty) (row_at members i)
+
+  abbrev both_rows : List Polynomial
+  both_rows = add_multiple F (factor (F.neg 1) j) first_row (row_at members j)
+
+  Multiple : IsExponents multiple
+  unfolding pair_multiple
+  Multiple =
+      let B = lead-exponents L O G good i (places members i l) in
+      let C = lead-exponents L O G good j (places members j m) in
+      record { eight = length-least_common_multiple (lead_of key G i) (lead_of key G j) (B.eight ∙ sym C.eight) ∙ B.eight }
+
+  factor-IsPolynomial : (c k : ℕ) → c < F.size → k < length members → IsPolynomial F (factor c k)
+  factor-IsPolynomial c k b n = IsPolynomial-term c b (IsExponents-minus Multiple (lead-exponents L O G good k (places members k n)))
+
+  -- The totals of a factor leave room for its member's sugar.
+  factor-low : (c k : ℕ) → k < length members → IsTrue (divides (lead_of key G k) multiple) → ((member_at G k).sugar - total (lead_of key G k)) + total multiple ≤ s.sugar
+      → (a : List ℕ) → 0 < coefficient (factor c k) a → total a + (member_at G k).sugar ≤ s.sugar
+  factor-low c k n d low a p =
+      let B = lead-exponents L O G good k (places members k n) in
+      let whole = sym (total-plus_exponents B (IsExponents-minus Multiple B)) ∙ ap total (plus-minus B Multiple d) in
+      let bound = lead-total L O G good k (places members k n) in
+      let is = ap total (term-positive c (minus multiple (lead_of key G k)) a p) in
+      omega (arith, whole, bound, low, is)
+
+  first-low : ((member_at G i).sugar - total (lead_of key G i)) + total multiple ≤ s.sugar
+  first-low = omega (arith, s-sugar F key G i j)
+
+  second-low : ((member_at G j).sugar - total (lead_of key G j)) + total multiple ≤ s.sugar
+  second-low = omega (arith, s-sugar F key G i j)
+
+  zeros-IsRow : IsRow F N empty (replicate (length (row_at members i)) empty)
+  zeros-IsRow = subst (λ n. IsRow F N empty (replicate n empty)) (sym (row-traced members traced i l).long) (IsRow-zero L N A)
+
+  member-IsPolynomial : (k : ℕ) → k < length members → IsPolynomial F (member_at G k).polynomial
+  member-IsPolynomial k n = member-polynomial L O G good.polynomials good.nonzero k (places members k n)
+
+  both-is : sum F (sum F empty (product F (factor 1 i) (member_at G i).polynomial)) (product F (factor (F.neg 1) j) (member_at G j).polynomial) ≡ s.polynomial
+  unfolding difference
+  both-is =
+      let C = lead-exponents L O G good j (places members j m) in
+      ap₂ (sum F) (zero-sum L (IsPolynomial-product L (factor-IsPolynomial 1 i (one_below L) l) (member-IsPolynomial i l)))
+      (product_term-negation L (member-IsPolynomial j m) 1 (one_below L) (IsExponents-minus Multiple C))
+      ∙ sym (s-polynomial F key G i j)
+
+  both-IsRow : IsRow F N s.polynomial both_rows
+  both-IsRow =
+      subst (λ f. IsRow F N f (add_multiple F (factor (F.neg 1) j) (add_multiple F (factor 1 i) (replicate (length (row_at members i)) empty) (row_at members i)) (row_at members j))) both-is
+      (IsRow-add_multiple L A (factor-IsPolynomial (F.neg 1) j neg_below m)
+      (IsRow-add_multiple L A (factor-IsPolynomial 1 i (one_below L) l) zeros-IsRow (row-IsRow members traced i l)) (row-IsRow members traced j m))
+    where
+      neg_below : F.neg 1 < F.size
+      neg_below = L.neg_below 1 (one_below L)
+
+  both-within : All (DegreeAtMost s.sugar) both_rows
+  both-within =
+      let first = row-traced members traced i l in
+      let second = row-traced members traced j m in
+      DegreeAtMost-add_multiple L (factor-IsPolynomial (F.neg 1) j (L.neg_below 1 (one_below L)) m) (member_at G j).sugar s.sugar
+      (factor-low (F.neg 1) j m (second-divides L O G good i j (places members i l) (places members j m)) second-low) _ (row_at members j) second.polynomials
+      (DegreeAtMost-add_multiple L (factor-IsPolynomial 1 i (one_below L) l) (member_at G i).sugar s.sugar
+      (factor-low 1 i l (first-divides L O G good i j (places members i l) (places members j m)) first-low) (replicate (length (row_at members i)) empty) (row_at members i) first.polynomials
+      (All-replicate (DegreeAtMost s.sugar) (length (row_at members i)) empty (DegreeAtMost-empty s.sugar)) first.within) second.within
+
+  module _ (last : Division) (D : IsLowDivision F key G s last) where
+    inside : IsWithinSugar G last
+    inside =
+        StepsTo-IsWithinSugar O L G good.polynomials good.nonzero good.within s (good.s_is i j) (good.s_within i j (places members i l) (places members j m)) D.division.states last D.division.steps
+
+    remainder-IsRow : IsRow F N last.remainder (s_polynomial_row F key members (replicate (length (row_at members i)) empty) (i, j) last.quotients)
+    unfolding s_polynomial_row
+    remainder-IsRow =
+        IsRow-remainder L O G good.polynomials good.nonzero (good.s_is i j) D.division A (map (λ m. m.row.items) members) (traced-AreRows L members traced) both-IsRow
+
+    remainder-within : All (DegreeAtMost last.sugar) (s_polynomial_row F key members (replicate (length (row_at members i)) empty) (i, j) last.quotients)
+    unfolding s_polynomial_row
+    remainder-within =
+        let rises = sugar-rises F key G s D.division.states last D.division.steps in
+        DegreeAtMost-subtracted L last.sugar last.quotients members _ (IsDivision-quotients O L G good.polynomials good.nonzero (good.s_is i j) D.division) inside.quotients traced
+        (All-weaker (DegreeAtMost s.sugar) (DegreeAtMost last.sugar) (λ f b. DegreeAtMost-more rises b) _ both-within)
+
+    -- The next member is traced.
+    pub next-IsTraced : (next : Member K R) → last.remainder ≢ empty → sugared next ≡ monic_member F key (record { polynomial = last.remainder; sugar = last.sugar })
+        → next.row.items ≡ map (product F (term (F.inverse (lead_coefficient key last.remainder)) origin)) (s_polynomial_row F key members (replicate (length (row_at members i)) empty) (i, j) last.quotients)
+        → IsTraced F N next
+    unfolding monic_member made_monic
+    next-IsTraced next some is rows =
+        let P = IsDivision-remainder_polynomial O L G good.polynomials good.nonzero (good.s_is i j) D.division in
+        let small = L.inverse_below _ (lead_coefficient-nonzero O P some) (lead_coefficient-below O P (zero_below L)) in
+        let C = IsPolynomial-term (F.inverse (lead_coefficient key last.remainder)) small IsExponents-origin in
+        let polynomial = ap (λ g. g.polynomial) is in
+        let sugar = ap (λ g. g.sugar) is in
+        let row = remainder-IsRow in
+        record {
+          row = subst₂ (IsRow F N) (sym polynomial) (sym rows) (IsRow-scaled L C A P row);
+          within = subst₂ (λ n row. All (DegreeAtMost n) row) (sym sugar) (sym rows)
+              (All-map (DegreeAtMost last.sugar) (product F (term (F.inverse (lead_coefficient key last.remainder)) origin)) _
+              (λ k d n. DegreeAtMost-product L C (row.polynomials.each k d n) last.sugar last.sugar
+              (λ a p. let e = ap total (term-positive (F.inverse (lead_coefficient key last.remainder)) origin a p) in omega (arith, e, total_origin)) (remainder-within k d n)));
+          bounded = subst₂ DegreeAtMost (sym sugar) (sym polynomial) (DegreeAtMost-made_monic L O P last.sugar some inside.remainder);
+          low = let low = D.low in omega (arith, sugar, low);
+        }
+
+-- A polynomial and its sugar as a member made monic.
+pub monic-is : (F : Field) (key : List ℕ → List ℕ) (g : Sugared) (f : Polynomial) (n c : ℕ) → c ≡ F.inverse (lead_coefficient key g.polynomial) → f ≡ product F (term c origin) g.polynomial
+    → n ≡ g.sugar → record { polynomial = f; sugar = n } ≡ monic_member F key g
+unfolding monic_member made_monic
+monic-is F key g f n c inverse is sugar =
+    let whole = is ∙ ap (λ d. product F (term d origin) g.polynomial) inverse in
+    λ i. record { polynomial = whole i; sugar = sugar i }
+
+-- Where the sugar is high from the start, so is the division.
+pub high-start : (F : Field) (key : List ℕ → List ℕ) (G : List Sugared) (h : Sugared) → degree_limit < h.sugar → IsHighDivision F key G h
+unfolding division_start
+high-start F key G h high = record { states = []; reached = division_start G h; steps = refl; high = high }
+
+-- A polynomial made monic isn't zero.
+pub made_monic-nonzero : {F : Field} (L : IsField F) {key : List ℕ → List ℕ} (O : IsMonomialOrder key) {f : Polynomial} → IsPolynomial F f → f ≢ empty → made_monic F key f ≢ empty
+unfolding made_monic
+made_monic-nonzero {F} L {key} O {f} P some =
+    let d = lead_coefficient key f in
+    let positive = lead_coefficient-nonzero O P some in
+    let below = lead_coefficient-below O P (zero_below L) in
+    let small = L.inverse_below d positive below in
+    let quotient = quotient_nonzero L 1 d (one_below L) below (omega arith) positive in
+    let is = L.mul_comm 1 (F.inverse d) (one_below L) small ∙ L.mul_one (F.inverse d) small in
+    product_nonzero L (IsPolynomial-term (F.inverse d) small IsExponents-origin) P
+    (λ e. let zero = sym (coefficient-term_same (F.inverse d) origin) ∙ ap (λ g. coefficient g origin) e ∙ coefficient-empty origin in absurd (omega (arith, quotient, is, zero))) some

@@ -1,0 +1,105 @@
+-- Bounds of the totals of the terms in rows of cofactors.
+use Rattle.std.proofs.Common.{◌≡◌, ◌≢◌, ◌⊎◌, Bool, true, false, cond, ℕ, zero, suc, ◌+◌, ◌<◌, ◌≤◌, Option, Some, None, List, [], ◌∷◌, length, map, get_or, set, replicate, All, refl, sym, ap, ap₂, ◌∙◌, subst, arith, eq-zero-or-pos, ⊎_elim, inl, inr}
+use Rattle.std.specs.FinMap.{empty}
+use Rattle.std.proofs.lemmas.List.Elements.{All-nil, All-cons, All-head, All-tail, All-replicate, All-set}
+use Rattle.fj_coeff.specs.Field.{Field, IsField}
+use Rattle.fj_theory.specs.Exponents.{IsExponents, origin, total}
+use Rattle.fj_theory.specs.Polynomial.{Polynomial, IsPolynomial, coefficient, degree, negation, product, sum, term}
+use Rattle.fj_theory.specs.Ideal.{ArePolynomials}
+use Rattle.fj_theory.specs.Rows.{add_multiple, add_multiples, AreRows}
+use Rattle.fj_theory.specs.Division.{Sugared, DegreeAtMost, member_at, polynomials_of}
+use Rattle.fj_theory.proofs.Degree.{degree-product, degree_attained, degree_bounds, empty_from_degree}
+use Rattle.fj_theory.proofs.Field.{zero_below}
+use Rattle.fj_theory.proofs.IdealBridge.{over, ArePolynomials-head, ArePolynomials-tail}
+use Rattle.fj_theory.proofs.FormalSum.{same, same_true}
+use Rattle.fj_theory.proofs.Polynomial.{coefficient-empty, coefficient-sum, coefficient-term}
+use Rattle.fj_theory.proofs.PolynomialRing.{IsPolynomial-negation}
+use Rattle.fj_theory.proofs.Product.{IsPolynomial-product}
+use Rattle.fj_theory.proofs.ReducedBasis.{exponents_of}
+use Rattle.fj_basis.specs.declared.members.Member.{Member}
+use Rattle.fj_basis.specs.Members.{sugared_members, IsTraced}
+use Rattle.fj_basis.proofs.Rows.{times_empty, empty_times, negation-positive}
+
+pub term-positive : (c : ℕ) (a b : List ℕ) → 0 < coefficient (term c a) b → b ≡ a
+term-positive c a b p = by (same b a) refl
+  where
+    by : (t : Bool) → same b a ≡ t → b ≡ a
+    by true e = same_true b a e
+    by false e = let none = coefficient-term c a b ∙ ap (λ t. cond t c 0) e in absurd (omega (arith, none, p))
+
+pub DegreeAtMost-more : {m n : ℕ} {f : Polynomial} → m ≤ n → DegreeAtMost m f → DegreeAtMost n f
+DegreeAtMost-more le b = record { within = λ a p. let own = b.within a p in omega (arith, own, le) }
+
+pub DegreeAtMost-empty : (n : ℕ) → DegreeAtMost n empty
+DegreeAtMost-empty n = record { within = λ a p. let none = coefficient-empty a in absurd (omega (arith, none, p)) }
+
+pub DegreeAtMost-term : (n c : ℕ) (a : List ℕ) → total a ≤ n → DegreeAtMost n (term c a)
+DegreeAtMost-term n c a l = record { within = λ b p. let e = ap total (term-positive c a b p) in omega (arith, e, l) }
+
+module _ {F : Field} (L : IsField F) where
+  -- A coefficient of a sum that isn't zero comes from one of the two.
+  pub sum-positive : (f g : Polynomial) (a : List ℕ) → 0 < coefficient (sum F f g) a → (0 < coefficient f a) ⊎ (0 < coefficient g a)
+  sum-positive f g a p = by (eq-zero-or-pos (coefficient f a)) (eq-zero-or-pos (coefficient g a))
+    where
+      by : (coefficient f a ≡ 0) ⊎ (0 < coefficient f a) → (coefficient g a ≡ 0) ⊎ (0 < coefficient g a) → (0 < coefficient f a) ⊎ (0 < coefficient g a)
+      by (inr q) o = inl q
+      by (inl z) (inr q) = inr q
+      by (inl z) (inl w) =
+          let none = coefficient-sum L f g a ∙ ap₂ F.add z w ∙ L.add_zero 0 (zero_below L) in
+          absurd (omega (arith, none, p))
+
+  pub DegreeAtMost-sum : {f g : Polynomial} (n : ℕ) → DegreeAtMost n f → DegreeAtMost n g → DegreeAtMost n (sum F f g)
+  DegreeAtMost-sum {f} {g} n A B = record { within = λ a p. ⊎_elim (λ q. A.within a q) (λ q. B.within a q) (sum-positive f g a p) }
+
+  -- A product, where the totals of the one factor leave room for the bound of the other.
+  pub DegreeAtMost-product : {f g : Polynomial} → IsPolynomial F f → IsPolynomial F g → (m n : ℕ) → ((a : List ℕ) → 0 < coefficient f a → total a + m ≤ n) → DegreeAtMost m g
+      → DegreeAtMost n (product F f g)
+  DegreeAtMost-product {f} {g} P Q m n low within = by (degree f) (degree g) refl refl
+    where
+      by : (o u : Option ℕ) → degree f ≡ o → degree g ≡ u → DegreeAtMost n (product F f g)
+      by None u d e = subst (DegreeAtMost n) (sym (ap (λ h. product F h g) (empty_from_degree L P d) ∙ empty_times F g)) (DegreeAtMost-empty n)
+      by (Some k) None d e = subst (DegreeAtMost n) (sym (ap (product F f) (empty_from_degree L Q e) ∙ times_empty F f)) (DegreeAtMost-empty n)
+      by (Some k) (Some l) d e =
+          let top = degree_attained L P d in
+          let other = degree_attained L Q e in
+          let bound = low top.0 top.2 in
+          let its = within.within other.0 other.2 in
+          let is = top.3 in
+          let its_is = other.3 in
+          let R = IsPolynomial-product L P Q in
+          record {
+            within = λ a p. let whole = degree_bounds L R (degree-product L P Q d e) a (exponents_of L (over R) a p) p in omega (arith, whole, bound, its, is, its_is);
+          }
+
+  -- A row with a multiple of another one added.
+  pub DegreeAtMost-add_multiple : {f : Polynomial} → IsPolynomial F f → (m n : ℕ) → ((a : List ℕ) → 0 < coefficient f a → total a + m ≤ n) → (xs ys : List Polynomial)
+      → ArePolynomials F ys → All (DegreeAtMost n) xs → All (DegreeAtMost m) ys → All (DegreeAtMost n) (add_multiple F f xs ys)
+  unfolding add_multiple
+  DegreeAtMost-add_multiple P m n low [] ys Q A B = A
+  DegreeAtMost-add_multiple P m n low (x ∷ xs) [] Q A B = A
+  DegreeAtMost-add_multiple {f} P m n low (x ∷ xs) (y ∷ ys) Q A B =
+      All-cons (DegreeAtMost n) (sum F x (product F f y)) (add_multiple F f xs ys)
+      (DegreeAtMost-sum n (All-head (DegreeAtMost n) x xs A) (DegreeAtMost-product P (ArePolynomials-head Q) m n low (All-head (DegreeAtMost m) y ys B)))
+      (DegreeAtMost-add_multiple P m n low xs ys (ArePolynomials-tail Q) (All-tail (DegreeAtMost n) x xs A) (All-tail (DegreeAtMost m) y ys B))
+
+  module _ {K R : Type 0} {N : List Polynomial} where
+    -- A row with the members' cofactors times quotients subtracted.
+    pub DegreeAtMost-subtracted : (n : ℕ) (qs : List Polynomial) (members : List (Member K R)) (first : List Polynomial) → ArePolynomials F qs
+        → ((k : ℕ) → k < length qs → (a : List ℕ) → 0 < coefficient (get_or qs k empty) a → total a + (member_at (sugared_members members) k).sugar ≤ n)
+        → All (IsTraced F N) members → All (DegreeAtMost n) first
+        → All (DegreeAtMost n) (add_multiples F (map (negation F) qs) (map (λ m. m.row.items) members) first)
+    unfolding add_multiples member_at
+    DegreeAtMost-subtracted n [] members first Q within all A = A
+    DegreeAtMost-subtracted n (q ∷ qs) [] first Q within all A = A
+    DegreeAtMost-subtracted n (q ∷ qs) (m ∷ members) first Q within all A =
+        let t = All-head (IsTraced F N) m members all in
+        DegreeAtMost-subtracted n qs members (add_multiple F (negation F q) first m.row.items) (ArePolynomials-tail Q) (λ k l a p. within (suc k) (omega (arith, l)) a p)
+        (All-tail (IsTraced F N) m members all)
+        (DegreeAtMost-add_multiple (IsPolynomial-negation L (ArePolynomials-head Q)) m.sugar n (λ a p. within 0 (omega arith) a (negation-positive L q a p)) first m.row.items
+        t.row.polynomials A t.within)
+
+    -- The table of the members' cofactors.
+    pub traced-AreRows : (members : List (Member K R)) → All (IsTraced F N) members → AreRows F N (polynomials_of (sugared_members members)) (map (λ m. m.row.items) members)
+    unfolding AreRows
+    traced-AreRows [] all = tt
+    traced-AreRows (m ∷ members) all = ((All-head (IsTraced F N) m members all).row, traced-AreRows members (All-tail (IsTraced F N) m members all))

@@ -1,0 +1,194 @@
+-- The start of a run, a given polynomial at a time.
+use Rattle.std.proofs.Common.{◌≡◌, ◌≢◌, ℕ, zero, suc, ◌+◌, ◌<◌, ◌≤◌, ◌==◌, not, Bool, true, false, cond, List, [], ◌∷◌, ◌++◌, length, length-append, map, filter, take, get_or, set, replicate, All, Contains, refl, sym, ap, ap₂, ◌∙◌, subst, subst₂, arith, add-one, eq-eqb}
+use Rattle.std.specs.List.{flat_map, range_with_len}
+use Rattle.std.specs.FinMap.{empty, len, len-empty, empty_of_len}
+use Rattle.std.specs.Cmp.Lexicographic.{slice_cmp}
+use Rattle.std.specs.Ordering.{nat_cmp}
+use Rattle.std.proofs.Math.Seq.{take-suc}
+use Rattle.std.proofs.lemmas.Bool.{ne_eqb}
+use Rattle.std.proofs.lemmas.Grind.{flat_map-append}
+use Rattle.std.proofs.lemmas.List.{append-nil, length-map, map-append, map-id, take_all}
+use Rattle.std.proofs.lemmas.List.Elements.{All-nil, All-replicate, All-set, filter-append}
+use Rattle.std.proofs.lemmas.List.FromFn.{map-range_with_len_more}
+use Rattle.fj_algebra.proofs.Pairs.{All-from_elements, contains_nil}
+use Rattle.fj_coeff.specs.Field.{Field, IsField}
+use Rattle.fj_theory.specs.Exponents.{origin, total}
+use Rattle.fj_theory.specs.MonomialOrder.{IsMonomialOrder}
+use Rattle.fj_theory.specs.Polynomial.{Polynomial, IsPolynomial, term}
+use Rattle.fj_theory.specs.Ideal.{ArePolynomials}
+use Rattle.fj_theory.specs.Lead.{lead_coefficient, made_monic}
+use Rattle.fj_theory.specs.Rows.{IsRow}
+use Rattle.fj_theory.specs.Division.{DegreeAtMost, Sugared, degree_limit}
+use Rattle.fj_theory.specs.Run as definition
+use Rattle.fj_theory.specs.Run.{append_member, first_members, given, monic_member, pairs_with, run_start}
+use Rattle.fj_theory.proofs.Exponents.{IsExponents-origin, total_origin}
+use Rattle.fj_theory.proofs.Field.{zero_below}
+use Rattle.fj_theory.proofs.Lead.{lead_coefficient-below, lead_coefficient-nonzero}
+use Rattle.fj_theory.proofs.Polynomial.{IsPolynomial-term}
+use Rattle.fj_theory.proofs.Rows.{IsRow-one}
+use Rattle.fj_theory.proofs.Run.{of_all_pairs}
+use Rattle.fj_theory.proofs.Sugar.{DegreeAtMost-made_monic, given-DegreeAtMost}
+use Rattle.fj_basis.specs.declared.members.Member.{Member}
+use Rattle.fj_basis.specs.declared.pairs.Pair.{Pair}
+use Rattle.fj_basis.specs.declared.run.Run.{Run}
+use Rattle.fj_basis.specs.Members.{IsTraced, sugared, sugared_members}
+use Rattle.fj_basis.specs.State.{ArePending, HasPairsWith, IsAfter}
+use Rattle.fj_basis.proofs.Gathered.{gathered_all}
+use Rattle.fj_basis.proofs.NextMember.{made_monic-nonzero}
+use Rattle.fj_basis.proofs.PendingPairs.{ArePending-append}
+use Rattle.fj_basis.proofs.RowBounds.{DegreeAtMost-empty, DegreeAtMost-term}
+
+-- The start of the run on the first n polynomials of L, with cofactors over all of L.
+pub record IsStarted {K R : Type 0} (F : Field) (key : List ℕ → List ℕ) (L : List Polynomial) (n : ℕ) (s : Run K R) : Type 0 where
+  pub members : (run_start F key (take n L)).members ≡ sugared_members s.members.items
+  pub pending : ArePending key (run_start F key (take n L)) s.pending.keys
+  pub traced : All (IsTraced F L) s.members.items
+  pub nonzero : All (λ m. m.polynomial ≢ empty) s.members.items
+
+range-more : (n : ℕ) → range_with_len 0 (n + 1) ≡ range_with_len 0 n ++ (n ∷ [])
+range-more n =
+    sym (map-id (range_with_len 0 (n + 1))) ∙ map-range_with_len_more (λ (x : ℕ). x) 0 n n (omega arith) ∙ ap (λ xs. xs ++ (n ∷ [])) (map-id (range_with_len 0 n))
+
+pairs-more : (n : ℕ) → flat_map pairs_with (range_with_len 0 (n + 1)) ≡ flat_map pairs_with (range_with_len 0 n) ++ pairs_with n
+pairs-more n =
+    ap (flat_map pairs_with) (range-more n) ∙ flat_map-append pairs_with (range_with_len 0 n) (n ∷ []) ∙ ap (λ xs. flat_map pairs_with (range_with_len 0 n) ++ xs) (append-nil (pairs_with n))
+
+module _ (F : Field) (key : List ℕ → List ℕ) where
+  test : Polynomial → Bool
+  test f = not (len f == 0)
+
+  member : Polynomial → Sugared
+  member f = monic_member F key (given f)
+
+  -- The start with these members.
+  start_of : List Sugared → definition.Run
+  start_of G = record { members = G; pending = flat_map pairs_with (range_with_len 0 (length G)) }
+
+  start-is : (N : List Polynomial) → run_start F key N ≡ start_of (first_members F key N)
+  unfolding run_start start_of
+  start-is N = refl
+
+  first-is : (N : List Polynomial) → first_members F key N ≡ map member (filter test N)
+  unfolding first_members member test
+  first-is N = refl
+
+  first-more : (N : List Polynomial) (f : Polynomial) → first_members F key (N ++ (f ∷ [])) ≡ first_members F key N ++ map member (cond (test f) (f ∷ []) [])
+  first-more N f =
+      first-is (N ++ (f ∷ [])) ∙ ap (map member) (filter-append test N (f ∷ [])) ∙ map-append member (filter test N) (filter test (f ∷ [])) ∙ ap (λ G. G ++ map member (filter test (f ∷ []))) (sym (first-is N))
+
+  start-zero : (N : List Polynomial) (f : Polynomial) → f ≡ empty → run_start F key (N ++ (f ∷ [])) ≡ run_start F key N
+  unfolding test
+  start-zero N f e =
+      let none : (len f == 0) ≡ true = eq-eqb (len f) 0 (ap len e ∙ len-empty (slice_cmp nat_cmp) ℕ) in
+      start-is (N ++ (f ∷ []))
+      ∙ ap start_of (first-more N f ∙ ap (λ t. first_members F key N ++ map member (cond (not t) (f ∷ []) [])) none ∙ append-nil (first_members F key N)) ∙ sym (start-is N)
+
+  start_of-more : (G : List Sugared) (g : Sugared) → start_of (G ++ (g ∷ [])) ≡ append_member (start_of G) g
+  unfolding start_of append_member
+  start_of-more G g =
+      let pairs = ap (λ n. flat_map pairs_with (range_with_len 0 n)) (length-append G (g ∷ [])) ∙ pairs-more (length G) in
+      λ i. record { members = G ++ (g ∷ []); pending = pairs i }
+
+  start-more : (N : List Polynomial) (f : Polynomial) → f ≢ empty → run_start F key (N ++ (f ∷ [])) ≡ append_member (run_start F key N) (monic_member F key (given f))
+  unfolding test member
+  start-more N f some =
+      let nonzero : (len f == 0) ≡ false = ne_eqb (len f) 0 (λ z. some (empty_of_len f z)) in
+      start-is (N ++ (f ∷ [])) ∙ ap start_of (first-more N f ∙ ap (λ t. first_members F key N ++ map member (cond (not t) (f ∷ []) [])) nonzero)
+      ∙ start_of-more (first_members F key N) (monic_member F key (given f)) ∙ ap (λ s. append_member s (monic_member F key (given f))) (sym (start-is N))
+
+  start-places : (N : List Polynomial) (i j : ℕ) → Contains (run_start F key N).pending (i, j) → (i < j) × (j < length (run_start F key N).members)
+  unfolding run_start
+  start-places N i j c = of_all_pairs (length (first_members F key N)) i j c
+
+  none-ArePending : {R : Type 0} → ArePending {O = R} key (run_start F key []) []
+  unfolding run_start first_members
+  none-ArePending {R} = record { sound = All-nil _; complete = λ pair c. absurd (contains_nil pair c) }
+
+  none-members : (run_start F key []).members ≡ []
+  unfolding run_start first_members
+  none-members = refl
+
+one-more : (L : List Polynomial) (n : ℕ) → n < length L → take (n + 1) L ≡ take n L ++ (get_or L n empty ∷ [])
+one-more L n l = ap (λ m. take m L) (add-one n) ∙ take-suc L n empty l
+
+module _ {K R : Type 0} {F : Field} {key : List ℕ → List ℕ} (L : List Polynomial) where
+  -- Nothing is read.
+  pub started-none : (s : Run K R) → s.members.items ≡ [] → s.pending.keys ≡ [] → IsStarted F key L 0 s
+  started-none s members keys = record {
+    members = none-members F key ∙ ap sugared_members (sym members);
+    pending = subst (ArePending key (run_start F key [])) (sym keys) (none-ArePending F key);
+    traced = subst (All (IsTraced F L)) (sym members) (All-nil (IsTraced F L));
+    nonzero = subst (All (λ (m : Member K R). m.polynomial ≢ empty)) (sym members) (All-nil (λ m. m.polynomial ≢ empty));
+  }
+
+  -- A polynomial that is zero.
+  pub started-zero : (n : ℕ) (s : Run K R) → n < length L → get_or L n empty ≡ empty → IsStarted F key L n s → IsStarted F key L (n + 1) s
+  started-zero n s l e before =
+      let same = sym (ap (run_start F key) (one-more L n l) ∙ start-zero F key (take n L) (get_or L n empty) e) in
+      record {
+        members = sym (ap (λ t. t.members) same) ∙ before.members;
+        pending = subst (λ t. ArePending key t s.pending.keys) same before.pending;
+        traced = before.traced;
+        nonzero = before.nonzero;
+      }
+
+  -- One that isn't.
+  pub started-more : (n : ℕ) (s new : Run K R) (m : Member K R) → n < length L → get_or L n empty ≢ empty → sugared m ≡ monic_member F key (given (get_or L n empty)) → IsTraced F L m → m.polynomial ≢ empty
+      → new.members.items ≡ s.members.items ++ (m ∷ []) → HasPairsWith key (sugared_members new.members.items) (length s.members.items) s.pending.keys new.pending.keys
+      → IsStarted F key L n s → IsStarted F key L (n + 1) new
+  unfolding append_member
+  started-more n s new m l some is traced nonzero whole pairs before =
+      let old = run_start F key (take n L) in
+      let g = monic_member F key (given (get_or L n empty)) in
+      let same : run_start F key (take (n + 1) L) ≡ append_member old g = ap (run_start F key) (one-more L n l) ∙ start-more F key (take n L) (get_or L n empty) some in
+      let are : sugared_members new.members.items ≡ old.members ++ (g ∷ []) =
+      ap sugared_members whole ∙ map-append sugared s.members.items (m ∷ []) ∙ ap₂ (λ G h. G ++ (h ∷ [])) (sym before.members) is in
+      let count : length s.members.items ≡ length old.members = sym (ap length before.members ∙ length-map s.members.items sugared) in
+      record {
+        members = ap (λ t. t.members) same ∙ sym are;
+        pending = subst (λ t. ArePending key t new.pending.keys) (sym same)
+            (ArePending-append key old g s.pending.keys new.pending.keys (start-places F key (take n L)) before.pending (subst₂ (λ G k. HasPairsWith key G k s.pending.keys new.pending.keys) are count pairs));
+        traced = gathered_all (IsTraced F L) s.members.items new.members.items m before.traced traced whole;
+        nonzero = gathered_all (λ (g : Member K R). g.polynomial ≢ empty) s.members.items new.members.items m before.nonzero nonzero whole;
+      }
+
+  -- All are read.
+  pub started-all : ArePolynomials F L → (n : ℕ) (s : Run K R) → length L ≤ n → IsStarted F key L n s → IsAfter F key L 0 s
+  started-all A n s l before =
+      let whole = take_all n L l in
+      record {
+        given = A;
+        state = run_start F key L;
+        run = record { states = []; steps = refl; made = refl };
+        members = ap (λ N. (run_start F key N).members) (sym whole) ∙ before.members;
+        pending = subst (λ N. ArePending key (run_start F key N) s.pending.keys) whole before.pending;
+        traced = before.traced;
+      }
+
+  -- A first member isn't zero.
+  pub first-nonzero : (laws : IsField F) → IsMonomialOrder key → ArePolynomials F L → (j : ℕ) → j < length L → (m : Member K R) → get_or L j empty ≢ empty
+      → sugared m ≡ monic_member F key (given (get_or L j empty)) → m.polynomial ≢ empty
+  unfolding given monic_member
+  first-nonzero laws O A j l m some is e = made_monic-nonzero laws O (A.each j empty l) some (sym (ap (λ g. g.polynomial) is) ∙ e)
+
+  -- A first member is traced.
+  pub first-IsTraced : (laws : IsField F) → IsMonomialOrder key → ArePolynomials F L → (j : ℕ) → j < length L → (m : Member K R) → get_or L j empty ≢ empty
+      → sugared m ≡ monic_member F key (given (get_or L j empty)) → m.sugar ≤ degree_limit
+      → m.row.items ≡ set (replicate (length L) empty) j (term (F.inverse (lead_coefficient key (get_or L j empty))) origin) → IsTraced F L m
+  unfolding given monic_member made_monic
+  first-IsTraced laws O A j l m some is low rows =
+      let f = get_or L j empty in
+      let P = A.each j empty l in
+      let c = F.inverse (lead_coefficient key f) in
+      let small = laws.inverse_below _ (lead_coefficient-nonzero O P some) (lead_coefficient-below O P (zero_below laws)) in
+      let C = IsPolynomial-term c small IsExponents-origin in
+      let polynomial = ap (λ g. g.polynomial) is in
+      let sugar = ap (λ g. g.sugar) is in
+      record {
+        row = subst₂ (IsRow F L) (sym polynomial) (sym rows) (IsRow-one laws C L j A l);
+        within = subst (All (DegreeAtMost m.sugar)) (sym rows)
+            (All-set (DegreeAtMost m.sugar) (replicate (length L) empty) j (term c origin) (DegreeAtMost-term m.sugar c origin (omega (arith, total_origin)))
+            (All-replicate (DegreeAtMost m.sugar) (length L) empty (DegreeAtMost-empty m.sugar)));
+        bounded = subst₂ DegreeAtMost (sym sugar) (sym polynomial) (DegreeAtMost-made_monic laws O P (given f).sugar some (given-DegreeAtMost laws P));
+        low = low;
+      }

@@ -1,0 +1,14 @@
+use Rattle.std.proofs.Common.{◌≡◌, ap, ap₂, ◌∙◌, sym}
+use Rattle.fj_theory.specs.Run.{are_coprime, has_coprime_leads}
+use Rattle.fj_basis.proofs.Leading.{lead_of-is, nonzero_at}
+use Rattle.fj_basis.proofs.run.Run.has_coprime_leads.Goals as goal
+
+pub returns : goal.returns
+unfolding has_coprime_leads
+returns g c =
+    let items = c.args.self.now.members.items in
+    let i = rw c.first.ensures at c.index.ensures in
+    let j = rw c.second.ensures at c.index-2.ensures in
+    c.are_coprime.ensures
+    ∙ ap₂ are_coprime (c.lead-first.ensures ∙ sym (lead_of-is g.O.Order.key items c.args.pair.now.i c.index.result.now c.requires.first i))
+    (c.lead-second.ensures ∙ sym (lead_of-is g.O.Order.key items c.args.pair.now.j c.index-2.result.now c.requires.second j))

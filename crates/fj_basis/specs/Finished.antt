@@ -1,0 +1,50 @@
+-- What finishing has found.
+use Rattle.std.specs.Prelude.{◌≡◌, ℕ, List, [], ◌∷◌, map, length, All}
+use Rattle.fj_coeff.specs.Field.{Field}
+use Rattle.fj_theory.specs.Polynomial.{Polynomial, negation}
+use Rattle.fj_theory.specs.Ideal.{ArePolynomials}
+use Rattle.fj_theory.specs.Rows.{add_multiples}
+use Rattle.fj_theory.specs.Division.{Sugared, Division, IsLowDivision, IsHighDivision}
+use Rattle.fj_theory.specs.Run as definition
+use Rattle.fj_basis.specs.declared.members.Member.{Member}
+use Rattle.fj_basis.specs.Members.{sugared, sugared_members, IsTraced}
+
+-- The members of a run on some list.
+pub record AreMembersOfRun {K O : Type 0} (F : Field) (key : List ℕ → List ℕ) (members : List (Member K O)) : Type 0 where
+  pub list : List Polynomial
+  pub given : ArePolynomials F list
+  pub turns : ℕ
+  pub state : definition.Run
+  pub run : definition.IsRun F key list turns state
+  pub are : state.members ≡ sugared_members members
+  pub traced : All (IsTraced F list) members
+
+-- The member is replaced by its remainder by those before it, with the cofactors that its quotients give.
+pub record IsReplacementOf {K O : Type 0} (F : Field) (key : List ℕ → List ℕ) (before : List (Member K O)) (m next : Member K O) : Type 0 where
+  pub last : Division
+  pub division : IsLowDivision F key (sugared_members before) (sugared m) last
+  pub polynomial : next.polynomial ≡ last.remainder
+  pub sugar : next.sugar ≡ last.sugar
+  pub row : next.row.items ≡ add_multiples F (map (negation F) last.quotients) (map (λ b. b.row.items) before) m.row.items
+
+-- In the second act a sugar above the limit arises.
+pub record IsHighReplacing (F : Field) (key : List ℕ → List ℕ) (members : List Sugared) : Type 0 where
+  pub reached : definition.Replacing
+  pub member : Sugared
+  pub rest : List Sugared
+  pub replacing : definition.IsReplacing F key members reached
+  pub next : reached.rest ≡ member ∷ rest
+  pub high : IsHighDivision F key reached.replaced member
+
+-- The row is the quotients of the division of f.
+pub record IsQuotients (F : Field) (key : List ℕ → List ℕ) (G : List Sugared) (f : Polynomial) (row : List Polynomial) : Type 0 where
+  pub last : Division
+  pub division : IsLowDivision F key G (definition.given f) last
+  pub quotients : last.quotients ≡ row
+
+-- Each row is the quotients of the division of the polynomial at its place.
+unfoldable pub AreQuotients : Field → (List ℕ → List ℕ) → List Sugared → List Polynomial → List (List Polynomial) → Type 0
+AreQuotients F key G [] [] = Unit {0}
+AreQuotients F key G [] (row ∷ rows) = ⊥
+AreQuotients F key G (f ∷ L) [] = ⊥
+AreQuotients F key G (f ∷ L) (row ∷ rows) = IsQuotients F key G f row × AreQuotients F key G L rows

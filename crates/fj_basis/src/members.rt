@@ -1,0 +1,43 @@
+ghost use Rattle.std.specs.Prelude.{◌≡◌, ◌≢◌};
+ghost use Rattle.std.specs.FinMap.{empty};
+ghost use Rattle.fj_theory.specs.Lead.{lead_exponents};
+ghost use Rattle.fj_basis.specs.Members.{sugared};
+
+use crate::divisor::Divisor;
+use fj_coeff::Coeff;
+use fj_mono::{Mono, Order};
+use fj_poly::Poly;
+
+/// The cofactors by which a polynomial is a combination of a list.
+pub(crate) type Row<K, O> = Vec<Poly<K, O>>;
+
+/// A member of a run, with its sugar and its cofactors over the list that the run was given.
+#[derive(Drop)]
+pub(crate) struct Member<K: Coeff, O: Order> {
+    pub(crate) polynomial: Poly<K, O>,
+    pub(crate) sugar: u64,
+    pub(crate) row: Row<K, O>,
+}
+
+impl<K: Coeff, O: Order> Member<K, O> {
+    /// The monomial of the lead of a member that isn't zero.
+    pub(crate) fn lead(&self) -> Mono
+        requires { self.now.polynomial ≢ empty }
+        ensures { result.exponents ≡ lead_exponents O.key self.now.polynomial }
+    {
+        let (_, m) = self.polynomial.lead().unwrap();
+        m
+    }
+}
+
+impl<K: Coeff, O: Order> Divisor<K, O> for Member<K, O> {
+    ghost sugared = { sugared };
+
+    fn polynomial(&self) -> &Poly<K, O> {
+        &self.polynomial
+    }
+
+    fn sugar(&self) -> u64 {
+        self.sugar
+    }
+}

@@ -1,0 +1,288 @@
+ghost use Rattle.std.specs.Prelude.{◌≡◌, ◌≢◌, ◌+◌, ◌-◌, ◌<◌, ◌≤◌, ◌↔◌, ◌++◌, ◌∷◌, ℕ, suc, List, [], IfOk, OnOk, IsTrue, All, length, replicate};
+ghost use Rattle.std.specs.FinMap.{empty};
+ghost use Rattle.fj_theory.specs.Exponents.{divides, minus, total};
+ghost use Rattle.fj_theory.specs.Ideal.{ArePolynomials};
+ghost use Rattle.fj_theory.specs.Polynomial.{Polynomial, product, term};
+ghost use Rattle.fj_theory.specs.Rows.{add_multiple};
+ghost use Rattle.fj_theory.specs.Division.{IsHighDivision, degree_limit, member_at};
+ghost use Rattle.fj_theory.specs.Run.{are_coprime, has_coprime_leads, lead_of, pair_multiple, s_polynomial};
+ghost use Rattle.fj_basis.specs.Finished.{AreMembersOfRun};
+ghost use Rattle.fj_basis.specs.Members.{sugared_members};
+ghost use Rattle.fj_basis.specs.Outcome.{IsHighOnlyWhere};
+ghost use Rattle.fj_basis.specs.Quotients.{AreQuotientsWithin};
+ghost use Rattle.fj_basis.specs.State.{HasPairsWith, IsAfter, IsFirstMember, IsHighNext, IsNextMember, IsPairOf, IsState, row_at, s_polynomial_row};
+
+use crate::cofactors::{add_multiple, row_of_one, scale_row, subtract_multiples, zero_row};
+use crate::division::divide_sugared;
+use crate::divisor::Divisor;
+use crate::handed::{look_over, sugar_of};
+use crate::members::{Member, Row};
+use crate::pairs::Pair;
+use fj_coeff::Coeff;
+use fj_mono::{DEGREE_LIMIT, Mono, Order};
+use fj_poly::{Poly, PolyFault};
+use std::alloc::{AllocError, Global};
+use std::collections::BTreeSet;
+
+/// The state of a run: the members found so far, and the pending pairs of their places.
+#[derive(Drop)]
+pub(crate) struct Run<K: Coeff, O: Order> {
+    members: Vec<Member<K, O>>,
+    pending: BTreeSet<Pair<O>>,
+}
+
+impl<K: Coeff, O: Order> Run<K, O> {
+    /// The run on a list begins with those of its polynomials that aren't zero, made monic, and with all pairs.
+    pub(crate) fn start(alloc: Global, list: &[Poly<K, O>]) -> Result<Run<K, O>, AllocError>
+        ensures { IfOk result (IsAfter K.field O.key list.now 0) }
+    {
+        look_over(list);
+        let mut run = Run {
+            members: Vec::new(alloc),
+            pending: BTreeSet::new(alloc),
+        };
+        for j in 0..list.len() {
+            if let Some(member) = first_member(alloc, list, j)? {
+                run.append(member)?;
+            }
+        }
+        Ok(run)
+    }
+
+    /// Whether no pair is pending.
+    pub(crate) fn is_done(&self) -> bool
+        ensures { IsTrue result ↔ (self.now.pending.keys ≡ []) }
+    {
+        self.pending.is_empty()
+    }
+
+    /// The members.
+    pub(crate) fn into_members(self) -> Vec<Member<K, O>>
+        ensures { result ≡ self.members }
+    {
+        self.members
+    }
+
+    /// One turn: the next pair is dropped where its leads are coprime, else its S-polynomial is divided by the members,
+    /// and a remainder that isn't zero is made monic and appended.
+    pub(crate) fn turn(&mut self, alloc: Global) -> Result<(), PolyFault>
+        requires state { IsState K.field O.key self.old }
+        requires pending { self.old.pending.keys ≢ [] }
+        ensures turn { OnOk result ((L : List Polynomial) (turns : ℕ) → IsAfter K.field O.key L turns self.old → IsAfter K.field O.key L (suc turns) self.new) }
+        ensures high { IsHighOnlyWhere (IsHighNext K.field O.key self.old) result }
+    {
+        let pair = self.pending.pop_first().unwrap();
+        if self.has_coprime_leads(&pair) {
+            return Ok(());
+        }
+        if let Some(member) = self.next_member(alloc, &pair)? {
+            self.append(member)?;
+        }
+        Ok(())
+    }
+
+    // The member that the pair gives, if the remainder of its S-polynomial isn't zero.
+    fn next_member(&self, alloc: Global, pair: &Pair<O>) -> Result<Option<Member<K, O>>, PolyFault>
+        requires state { AreMembersOfRun K.field O.key self.now.members.items }
+        requires pair { IsPairOf O.key (sugared_members self.now.members.items) pair.now }
+        requires first { pair.now.i < pair.now.j }
+        requires second { pair.now.j < length self.now.members.items }
+        ensures value { IfOk result (IsNextMember K.field O.key self.now.members.items (pair.now.i, pair.now.j)) }
+        ensures high { IsHighOnlyWhere (IsHighDivision K.field O.key (sugared_members self.now.members.items) (s_polynomial K.field O.key (sugared_members self.now.members.items) (pair.now.i, pair.now.j))) result }
+    {
+        let (s, sugar) = self.s_polynomial(alloc, pair)?;
+        let division = divide_sugared(alloc, &s, sugar, &self.members)?;
+        let Some((coefficient, _)) = division.remainder().lead() else {
+            return Ok(None);
+        };
+        let inverse = coefficient.inv();
+        let cofactors = self.remainder_row(alloc, pair, division.quotients())?;
+        let row = scale_row(alloc, &cofactors, inverse)?;
+        let (_, remainder, sugar) = division.into_parts();
+        Ok(Some(Member {
+            polynomial: remainder.scale(alloc, inverse)?,
+            sugar,
+            row,
+        }))
+    }
+
+    // Whether the leads of a pair have no variable in common.
+    fn has_coprime_leads(&self, pair: &Pair<O>) -> bool
+        requires nonzero { All (λ m. m.polynomial ≢ empty) self.now.members.items }
+        requires first { pair.now.i < length self.now.members.items }
+        requires second { pair.now.j < length self.now.members.items }
+        ensures { result ≡ has_coprime_leads O.key (sugared_members self.now.members.items) (pair.now.i, pair.now.j) }
+    {
+        let first = self.members[pair.first()].lead();
+        let second = self.members[pair.second()].lead();
+        are_coprime(&first, &second)
+    }
+
+    // Appends a member, and its pairs with all earlier members become pending.
+    fn append(&mut self, member: Member<K, O>) -> Result<(), AllocError>
+        requires nonzero { All (λ m. m.polynomial ≢ empty) self.old.members.items }
+        requires member { member.polynomial ≢ empty }
+        ensures members { OnOk result (self.new.members.items ≡ self.old.members.items ++ member ∷ []) }
+        ensures pending { OnOk result (HasPairsWith O.key (sugared_members self.new.members.items) (length self.old.members.items) self.old.pending.keys self.new.pending.keys) }
+    {
+        let lead = member.lead();
+        let j = self.members.len();
+        for i in 0..j {
+            self.pending
+                .insert(Pair::new(i, j, &self.members[i].lead(), &lead))?;
+        }
+        self.members.push(member)?;
+        Ok(())
+    }
+
+    // The S-polynomial of a pair, with its sugar.
+    fn s_polynomial(&self, alloc: Global, pair: &Pair<O>) -> Result<(Poly<K, O>, u64), PolyFault>
+        requires state { AreMembersOfRun K.field O.key self.now.members.items }
+        requires pair { IsPairOf O.key (sugared_members self.now.members.items) pair.now }
+        requires first { pair.now.i < length self.now.members.items }
+        requires second { pair.now.j < length self.now.members.items }
+        ensures value { IfOk result (λ s. record { polynomial = s.0; sugar = s.1 } ≡ s_polynomial K.field O.key (sugared_members self.now.members.items) (pair.now.i, pair.now.j)) }
+        ensures low { IfOk result (λ s. s.1 ≤ degree_limit) }
+        ensures high { IsHighOnlyWhere (degree_limit < (s_polynomial K.field O.key (sugared_members self.now.members.items) (pair.now.i, pair.now.j)).sugar) result }
+    {
+        let Some(multiple) = pair.multiple() else {
+            return Err(PolyFault::High);
+        };
+        let above = self.above(pair.first()).max(self.above(pair.second()));
+        let sugar = multiple.total().saturating_add(above);
+        if sugar > DEGREE_LIMIT {
+            return Err(PolyFault::High);
+        }
+        let first = self.multiple_of(alloc, pair.first(), &multiple)?;
+        let second = self.multiple_of(alloc, pair.second(), &multiple)?;
+        Ok((first.sub(alloc, &second)?, sugar))
+    }
+
+    // By how much the sugar of a member is above the total of its lead.
+    fn above(&self, k: usize) -> u64
+        requires place { k < length self.now.members.items }
+        requires nonzero { All (λ m. m.polynomial ≢ empty) self.now.members.items }
+        ensures { result ≡ (member_at (sugared_members self.now.members.items) k).sugar - total (lead_of O.key (sugared_members self.now.members.items) k) }
+    {
+        self.members[k]
+            .sugar
+            .saturating_sub(self.members[k].lead().total())
+    }
+
+    // The multiple of a member whose lead is the monomial.
+    fn multiple_of(&self, alloc: Global, k: usize, m: &Mono) -> Result<Poly<K, O>, PolyFault>
+        requires state { AreMembersOfRun K.field O.key self.now.members.items }
+        requires place { k < length self.now.members.items }
+        requires divisor { IsTrue (divides (lead_of O.key (sugared_members self.now.members.items) k) m.now.exponents) }
+        requires low { (member_at (sugared_members self.now.members.items) k).sugar - total (lead_of O.key (sugared_members self.now.members.items) k) + total m.now.exponents ≤ degree_limit }
+        ensures value { IfOk result (λ f. f ≡ product K.field (term 1 (minus m.now.exponents (lead_of O.key (sugared_members self.now.members.items) k))) (member_at (sugared_members self.now.members.items) k).polynomial) }
+        ensures high { IsHighOnlyWhere ⊥ result }
+    {
+        let factor = m.quot(&self.members[k].lead());
+        self.members[k].polynomial.shift(alloc, &factor)
+    }
+
+    // The cofactors of the remainder of an S-polynomial, from the quotients of its division.
+    fn remainder_row(
+        &self,
+        alloc: Global,
+        pair: &Pair<O>,
+        quotients: &[Poly<K, O>],
+    ) -> Result<Row<K, O>, PolyFault>
+        requires state { AreMembersOfRun K.field O.key self.now.members.items }
+        requires pair { IsPairOf O.key (sugared_members self.now.members.items) pair.now }
+        requires first { pair.now.i < pair.now.j }
+        requires second { pair.now.j < length self.now.members.items }
+        requires low { (s_polynomial K.field O.key (sugared_members self.now.members.items) (pair.now.i, pair.now.j)).sugar ≤ degree_limit }
+        requires quotients { AreQuotientsWithin K.field (sugared_members self.now.members.items) degree_limit quotients.now }
+        ensures value { IfOk result (λ row. row.items ≡ s_polynomial_row K.field O.key self.now.members.items (replicate (length (row_at self.now.members.items pair.now.i)) empty) (pair.now.i, pair.now.j) quotients.now) }
+        ensures high { IsHighOnlyWhere ⊥ result }
+    {
+        let multiple = pair.multiple().unwrap();
+        let mut row = zero_row(alloc, self.members[pair.first()].row.len())?;
+        self.fill_row(alloc, &mut row, pair, &multiple, quotients)?;
+        Ok(row)
+    }
+
+    // Adds to a row the cofactors of the S-polynomial of a pair, and subtracts those of the members times the quotients.
+    fn fill_row(
+        &self,
+        alloc: Global,
+        row: &mut [Poly<K, O>],
+        pair: &Pair<O>,
+        multiple: &Mono,
+        quotients: &[Poly<K, O>],
+    ) -> Result<(), PolyFault>
+        requires state { AreMembersOfRun K.field O.key self.now.members.items }
+        requires first { pair.now.i < pair.now.j }
+        requires second { pair.now.j < length self.now.members.items }
+        requires multiple { multiple.now.exponents ≡ pair_multiple O.key (sugared_members self.now.members.items) (pair.now.i, pair.now.j) }
+        requires low { (s_polynomial K.field O.key (sugared_members self.now.members.items) (pair.now.i, pair.now.j)).sugar ≤ degree_limit }
+        requires quotients { AreQuotientsWithin K.field (sugared_members self.now.members.items) degree_limit quotients.now }
+        requires row { ArePolynomials K.field row.old }
+        requires long { length row.old ≡ length (row_at self.now.members.items pair.now.i) }
+        ensures value { OnOk result (row.new ≡ s_polynomial_row K.field O.key self.now.members.items row.old (pair.now.i, pair.now.j) quotients.now) }
+        ensures high { IsHighOnlyWhere ⊥ result }
+    {
+        self.add_multiple_of(alloc, row, K::one(), pair.first(), multiple)?;
+        self.add_multiple_of(alloc, row, K::one().neg(), pair.second(), multiple)?;
+        subtract_multiples(alloc, row, quotients, &self.members)
+    }
+
+    // Adds to a row that of a member times c and the monomial by which the lead becomes m.
+    fn add_multiple_of(
+        &self,
+        alloc: Global,
+        row: &mut [Poly<K, O>],
+        c: K,
+        k: usize,
+        m: &Mono,
+    ) -> Result<(), PolyFault>
+        requires state { AreMembersOfRun K.field O.key self.now.members.items }
+        requires place { k < length self.now.members.items }
+        requires divisor { IsTrue (divides (lead_of O.key (sugared_members self.now.members.items) k) m.now.exponents) }
+        requires low { (member_at (sugared_members self.now.members.items) k).sugar - total (lead_of O.key (sugared_members self.now.members.items) k) + total m.now.exponents ≤ degree_limit }
+        requires row { ArePolynomials K.field row.old }
+        requires long { length row.old ≡ length (row_at self.now.members.items k) }
+        ensures value { OnOk result (row.new ≡ add_multiple K.field (term (K.rank c) (minus m.now.exponents (lead_of O.key (sugared_members self.now.members.items) k))) row.old (row_at self.now.members.items k)) }
+        ensures high { IsHighOnlyWhere ⊥ result }
+    {
+        let monomial = m.quot(&self.members[k].lead());
+        let factor = Poly::term(alloc, c, &monomial)?;
+        add_multiple(alloc, row, &factor, &self.members[k].row)
+    }
+}
+
+// The member that the polynomial at place j of the list gives, if it isn't zero.
+fn first_member<K: Coeff, O: Order>(
+    alloc: Global,
+    list: &[Poly<K, O>],
+    j: usize,
+) -> Result<Option<Member<K, O>>, AllocError>
+    requires list { ArePolynomials K.field list.now }
+    requires place { j < length list.now }
+    ensures { IfOk result (IsFirstMember K.field O.key list.now j) }
+{
+    let f = &list[j];
+    let Some((coefficient, _)) = f.lead() else {
+        return Ok(None);
+    };
+    let inverse = coefficient.inv();
+    Ok(Some(Member {
+        polynomial: f.scale(alloc, inverse)?,
+        sugar: sugar_of(f),
+        row: row_of_one(alloc, inverse, j, list.len())?,
+    }))
+}
+
+// Whether two monomials have no variable in common.
+fn are_coprime(a: &Mono, b: &Mono) -> bool
+    ensures { result ≡ are_coprime a.now.exponents b.now.exponents }
+{
+    for i in 0..8 {
+        if a.exp(i) != 0 && b.exp(i) != 0 {
+            return false;
+        }
+    }
+    true
+}
