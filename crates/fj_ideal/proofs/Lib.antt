@@ -1,1 +1,2 @@
 pub mod ReducedBasis
+pub mod Products

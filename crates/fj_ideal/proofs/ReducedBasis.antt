@@ -1,9 +1,9 @@
 -- What the reduced basis of an ideal tells of it.
-use Rattle.std.proofs.Common.{◌≡◌, ◌≢◌, ◌↔◌, ◌⊎◌, ℕ, zero, suc, ◌+◌, ◌<◌, ◌≤◌, List, [], ◌∷◌, ◌++◌, length, get_or, map, All, Some, Bool, true, false, cond, true≢false, refl, sym, ap, ap₂, ◌∙◌, subst, arith}
+use Rattle.std.proofs.Common.{◌≡◌, ◌≢◌, ◌↔◌, ℕ, zero, suc, List, [], ◌∷◌, ◌++◌, length, get_or, map, All, Some, Bool, true, false, cond, true≢false, refl, sym, ap, ◌∙◌, subst, arith}
 use Rattle.std.specs.FinMap.{empty}
 use Rattle.std.proofs.lemmas.List.Elements.{All-head}
 use Rattle.fj_coeff.specs.Field.{Field, IsField}
-use Rattle.fj_theory.specs.Exponents.{IsExponents, origin, total}
+use Rattle.fj_theory.specs.Exponents.{IsExponents, origin}
 use Rattle.fj_theory.specs.MonomialOrder.{IsMonomialOrder, grevlex_key}
 use Rattle.fj_theory.specs.Polynomial.{Polynomial, IsPolynomial, coefficient, degree, term, sum}
 use Rattle.fj_theory.specs.Ideal.{ArePolynomials, Member, Inside, Equal, list_combination, products}
@@ -16,7 +16,7 @@ use Rattle.fj_theory.specs.Evaluation.{IsPoint, IsZeroOf}
 use Rattle.fj_theory.proofs.Field.{one_below}
 use Rattle.fj_theory.proofs.Keys.{grevlex_key-IsMonomialOrder}
 use Rattle.fj_theory.proofs.Exponents.{IsExponents-origin, origin_from_total, total_origin}
-use Rattle.fj_theory.proofs.Polynomial.{polynomial_equal, coefficient-term, coefficient-term_same}
+use Rattle.fj_theory.proofs.Polynomial.{polynomial_equal, coefficient-term}
 use Rattle.fj_theory.proofs.FormalSum.{same, same_true, same_itself}
 use Rattle.fj_theory.proofs.Degree.{degree_bounds, degree-term}
 use Rattle.fj_theory.proofs.Lead.{IsExponents-lead, coefficient-lead, nonzero-lead_coefficient}
@@ -93,13 +93,13 @@ module _ {F : Field} (L : IsField F) where
     pub unit_from_member : (g : Polynomial) → J.members ≡ g ∷ [] → (degree g ≡ Some 0) ↔ Member F J.given (term 1 origin)
     unit_from_member g e = (
       λ d.
-      let P : IsPolynomial F g = All-head (IsPolynomial F) g [] (subst (All (IsPolynomial F)) e ArePolynomials-members.each) in
-      let monic : lead_coefficient grevlex_key g ≡ 1 = All-head (λ f. lead_coefficient grevlex_key f ≡ 1) g [] (subst (All (λ f. lead_coefficient grevlex_key f ≡ 1)) e I.reduced.monic) in
-      (IsReducedBasis-one grevlex L I.polynomials).0 (subst (IsReducedBasis F grevlex_key J.given) (e ∙ ap (λ f. f ∷ []) (one_from_degree P monic d)) I.reduced),
+          let P : IsPolynomial F g = All-head (IsPolynomial F) g [] (subst (All (IsPolynomial F)) e ArePolynomials-members.each) in
+          let monic : lead_coefficient grevlex_key g ≡ 1 = All-head (λ f. lead_coefficient grevlex_key f ≡ 1) g [] (subst (All (λ f. lead_coefficient grevlex_key f ≡ 1)) e I.reduced.monic) in
+          (IsReducedBasis-one grevlex L I.polynomials).0 (subst (IsReducedBasis F grevlex_key J.given) (e ∙ ap (λ f. f ∷ []) (one_from_degree P monic d)) I.reduced),
       λ m.
-      let is : g ∷ [] ≡ term 1 origin ∷ [] = sym e ∙ one_member m in
-      let one : g ≡ term 1 origin = cc in
-      ap degree one ∙ degree-term F 1 (omega arith) (one_below L) IsExponents-origin ∙ ap Some total_origin,
+          let is : g ∷ [] ≡ term 1 origin ∷ [] = sym e ∙ one_member m in
+          let one : g ≡ term 1 origin = cc in
+          ap degree one ∙ degree-term F 1 (omega arith) (one_below L) IsExponents-origin ∙ ap Some total_origin,
     )
 
     pub unit_is_single : Member F J.given (term 1 origin) → length J.members ≡ 1

@@ -1,5 +1,5 @@
 -- An ideal as the code keeps it: the list that it was made of, the reduced Grevlex basis, and the cofactors both ways.
-use Rattle.std.specs.Prelude.{◌≡◌, ℕ, List}
+use Rattle.std.specs.Prelude.{◌≡◌, List}
 use Rattle.std.specs.FinMap.{code}
 use Rattle.std.specs.Coded.{Coded, coded_list, coded×, coded_ℕ}
 use base.Stored.{coded_via}

@@ -14,7 +14,7 @@ ghost use Rattle.fj_ideal.specs.Ideal.{IsIdeal, IsIdealOf, basis_of};
 ghost use Rattle.fj_ideal.specs.Stop.{StopsAsRun};
 
 use fj_basis::types::Basis;
-use fj_basis::{Stop, copy_list};
+use fj_basis::{Stop, basis, copy_list};
 use fj_coeff::Coeff;
 use fj_mono::{Grevlex, Order};
 use fj_plain::Cert;
@@ -51,8 +51,22 @@ impl<K: Coeff> Ideal<K> {
         ensures value { IfOk result (IsIdealOf K.field list.now) }
         ensures stop { StopsAsRun K.field list.now pairs result }
     {
-        let _ = (alloc, list.len(), pairs);
-        Err(Stop::Memory)
+        let given = copy_list(alloc, list)?;
+        Ideal::of_owned(alloc, given, pairs)
+    }
+
+    // The ideal of a list that it takes.
+    pub(crate) fn of_owned(
+        alloc: Global,
+        given: Vec<GPoly<K>>,
+        pairs: u64,
+    ) -> Result<Ideal<K>, Stop>
+        requires { ArePolynomials K.field given.items }
+        ensures value { IfOk result (IsIdealOf K.field given.items) }
+        ensures stop { StopsAsRun K.field given.items pairs result }
+    {
+        let basis = basis(alloc, &given, pairs)?;
+        Ok(Ideal { given, basis })
     }
 
     /// The list that the ideal was made of.
@@ -136,8 +150,12 @@ impl<K: Coeff> Ideal<K> {
         ensures long { IfOk result (λ b. length b.up ≡ length self.now.members) }
         ensures stop { IsStopWhere (Unfinished K.field O.key self.now.members pairs) (TooHigh K.field O.key self.now.members pairs) (order_in_row O.ROW) self.now.members result }
     {
-        let _ = (alloc, self.is_zero(), pairs);
-        Err(Stop::Memory)
+        let members = self.members();
+        let mut list = Vec::with_capacity(alloc, members.len())?;
+        for g in members {
+            list.push(g.reorder(alloc)?)?;
+        }
+        basis(alloc, &list, pairs)
     }
 
     /// The same ideal once more, with the same list, members and cofactors.

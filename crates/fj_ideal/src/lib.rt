@@ -6,4 +6,3 @@ mod membership;
 mod operations;
 
 pub use ideal::Ideal;
-

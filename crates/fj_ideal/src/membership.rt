@@ -3,8 +3,9 @@ ghost use Rattle.fj_theory.specs.Ideal.{Inside, Member};
 ghost use Rattle.fj_theory.specs.Rows.{IsRow};
 
 use crate::ideal::Ideal;
+use fj_basis::divide;
 use fj_coeff::Coeff;
-use fj_poly::GPoly;
+use fj_poly::{GPoly, PolyFault};
 use std::alloc::{AllocError, Global};
 
 impl<K: Coeff> Ideal<K> {
@@ -13,22 +14,29 @@ impl<K: Coeff> Ideal<K> {
     ///
     /// h is divided by the members, and it is in the ideal exactly where the remainder is zero (Cox, Little and O'Shea 2015,
     /// chapter 2, section 6).
-    pub fn member(
-        &self,
-        alloc: Global,
-        h: &GPoly<K>,
-    ) -> Result<Option<Vec<GPoly<K>>>, AllocError>
+    pub fn member(&self, alloc: Global, h: &GPoly<K>) -> Result<Option<Vec<GPoly<K>>>, AllocError>
         ensures { IfOk result (λ found. MatchOption found (Member K.field self.now.given h.now → ⊥) (λ cofactors. Member K.field self.now.given h.now × IsRow K.field self.now.members h.now cofactors.items)) }
     {
-        let _ = (alloc, h.len(), self.is_zero());
-        Err(AllocError)
+        // h is a polynomial over K.
+        let _ = h.is_zero();
+        match divide(alloc, h, self.members()) {
+            Ok((cofactors, remainder)) => Ok(remainder.is_zero().then_some(cofactors)),
+            Err(PolyFault::High) => unreachable!(),
+            Err(PolyFault::Memory) => Err(AllocError),
+        }
     }
 
     /// Whether the other ideal is inside this one.
     pub fn contains(&self, alloc: Global, o: &Ideal<K>) -> Result<bool, AllocError>
         ensures { IfOk result (λ b. IsTrue b ↔ Inside K.field o.now.given self.now.given) }
     {
-        let _ = (alloc, o.is_zero(), self.is_zero());
-        Err(AllocError)
+        // What is given of this ideal are polynomials.
+        let _ = self.given();
+        for g in o.members() {
+            if self.member(alloc, g)?.is_none() {
+                return Ok(false);
+            }
+        }
+        Ok(true)
     }
 }

@@ -1,7 +1,7 @@
 ghost use Rattle.std.specs.Prelude.{◌≡◌, ◌++◌, ◌∷◌, [], IfOk};
 ghost use Rattle.std.specs.List.{Any};
 ghost use Rattle.fj_theory.specs.Ideal.{ArePolynomials, Equal, products};
-ghost use Rattle.fj_theory.specs.Polynomial.{product};
+ghost use Rattle.fj_theory.specs.Polynomial.{IsPolynomial, product};
 ghost use Rattle.fj_poly.specs.Limit.{IsHigh};
 ghost use Rattle.fj_plain.specs.OrderRow.{order_in_row};
 ghost use Rattle.fj_basis.specs.Outcome.{IsKeptOf};
@@ -9,9 +9,53 @@ ghost use Rattle.fj_ideal.specs.Ideal.{IsIdealOf};
 ghost use Rattle.fj_ideal.specs.Stop.{IsHighPair, IsProductWhere, StopsAsProducts, StopsAsRun};
 
 use crate::ideal::Ideal;
-use fj_basis::Stop;
+use fj_basis::{Stop, copy_list};
 use fj_coeff::Coeff;
-use std::alloc::Global;
+use fj_plain::{Kept, OrderName, PlainList};
+use fj_poly::{GPoly, PolyFault};
+use std::alloc::{AllocError, Global};
+
+// Two polynomials, as a stop keeps them.
+fn kept_pair<K: Coeff>(alloc: Global, g: &GPoly<K>, h: &GPoly<K>) -> Result<Kept, AllocError>
+    ensures { IfOk result (IsKeptOf (order_in_row 2) (g.now ∷ h.now ∷ [])) }
+{
+    Ok(Kept {
+        order: OrderName::Grevlex,
+        list: PlainList::of(vec![in alloc; g.to_plain(alloc)?, h.to_plain(alloc)?]?),
+    })
+}
+
+// The product of two polynomials.
+fn times<K: Coeff>(alloc: Global, g: &GPoly<K>, h: &GPoly<K>) -> Result<GPoly<K>, Stop>
+    ensures value { IfOk result (λ p. p ≡ product K.field g.now h.now) }
+    ensures polynomial { IfOk result (IsPolynomial K.field) }
+    ensures stop { IsProductWhere (IsHigh (product K.field g.now h.now)) (λ k. IsHigh (product K.field g.now h.now) × IsKeptOf (order_in_row 2) (g.now ∷ h.now ∷ []) k) result }
+{
+    match g.mul(alloc, h) {
+        Ok(product) => Ok(product),
+        Err(PolyFault::High) => Err(Stop::Product(kept_pair(alloc, g, h)?)),
+        Err(PolyFault::Memory) => Err(Stop::Memory),
+    }
+}
+
+// The products g*h of the polynomials of two lists, g slowest.
+fn products_of<K: Coeff>(
+    alloc: Global,
+    list: &[GPoly<K>],
+    others: &[GPoly<K>],
+) -> Result<Vec<GPoly<K>>, Stop>
+    ensures value { IfOk result (λ v. v.items ≡ products K.field list.now others.now) }
+    ensures polynomials { IfOk result (λ v. ArePolynomials K.field v.items) }
+    ensures stop { IsProductWhere (Any IsHigh (products K.field list.now others.now)) (IsHighPair K.field list.now others.now) result }
+{
+    let mut products = Vec::with_capacity(alloc, list.len().saturating_mul(others.len()))?;
+    for g in list {
+        for h in others {
+            products.push(times(alloc, g, h)?)?;
+        }
+    }
+    Ok(products)
+}
 
 impl<K: Coeff> Ideal<K> {
     /// The sum of the two ideals, made of the members of this one followed by those of the other, with at most `pairs`
@@ -24,8 +68,9 @@ impl<K: Coeff> Ideal<K> {
         ensures ideal { IfOk result (λ J. Equal K.field (self.now.given ++ o.now.given) J.given) }
         ensures stop { StopsAsRun K.field (self.now.members ++ o.now.members) pairs result }
     {
-        let _ = (alloc, o.is_zero(), self.is_zero(), pairs);
-        Err(Stop::Memory)
+        let mut list = copy_list(alloc, self.members())?;
+        list.append(&mut copy_list(alloc, o.members())?)?;
+        Ideal::of_owned(alloc, list, pairs)
     }
 
     /// The product of the two ideals, made of the products g*h, g a member of this one and h of the other, g slowest, with
@@ -39,7 +84,7 @@ impl<K: Coeff> Ideal<K> {
         ensures ideal { IfOk result (λ J. Equal K.field (products K.field self.now.given o.now.given) J.given) }
         ensures stop { StopsAsProducts K.field self.now.members o.now.members pairs result }
     {
-        let _ = (alloc, o.is_zero(), self.is_zero(), pairs);
-        Err(Stop::Memory)
+        let list = products_of(alloc, self.members(), o.members())?;
+        Ideal::of_owned(alloc, list, pairs)
     }
 }

@@ -1,4 +1,4 @@
-use Rattle.std.proofs.Common.{◌≡◌, ◌↔◌, IsTrue, List, [], ◌∷◌, length, Some, ap, ◌∙◌, sym, rules, arith}
+use Rattle.std.proofs.Common.{◌≡◌, ◌↔◌, IsTrue, [], ◌∷◌, length, Some, ap, ◌∙◌, sym, rules, arith}
 use Rattle.fj_theory.specs.Polynomial.{degree}
 use Rattle.fj_ideal.proofs.ReducedBasis.{one_element, unit_from_member, unit_is_single}
 use Rattle.fj_ideal.proofs.ideal.Ideal.is_unit.Goals as goal
@@ -11,13 +11,19 @@ returns-in-len1 g c =
     (λ t. law.0 (constant.0 t), λ m. constant.1 (law.1 m))
 
 pub returns-in_default : goal.returns-in_default
-returns-in_default g c = (λ t. cc, λ m.
-    let long = unit_is_single g.met.K.Coeff.lawful c.members.ensures.ideal m in
-    let same = ap length c.members.ensures.value in
-    absurd (omega (arith, long, same)))
+returns-in_default g c = (
+  λ t. cc,
+  λ m.
+      let long = unit_is_single g.met.K.Coeff.lawful c.members.ensures.ideal m in
+      let same = ap length c.members.ensures.value in
+      absurd (omega (arith, long, same)),
+)
 
 pub returns-in_default-2 : goal.returns-in_default-2
-returns-in_default-2 g c = (λ t. cc, λ m.
-    let long = unit_is_single g.met.K.Coeff.lawful c.members.ensures.ideal m in
-    let same = ap length c.members.ensures.value in
-    absurd (omega (arith, long, same)))
+returns-in_default-2 g c = (
+  λ t. cc,
+  λ m.
+      let long = unit_is_single g.met.K.Coeff.lawful c.members.ensures.ideal m in
+      let same = ap length c.members.ensures.value in
+      absurd (omega (arith, long, same)),
+)

@@ -1,4 +1,4 @@
-use Rattle.std.proofs.Common.{◌≡◌, ◌↔◌, IsTrue, [], length, ap, sym, ◌∙◌, rules}
+use Rattle.std.proofs.Common.{◌≡◌, ◌↔◌, IsTrue, length, ap, sym, ◌∙◌, rules}
 use Rattle.std.proofs.lemmas.List.{nil_from_length}
 use Rattle.fj_ideal.proofs.ReducedBasis.{zero_from_members}
 use Rattle.fj_ideal.proofs.ideal.Ideal.is_zero.Goals as goal

@@ -1,4 +1,4 @@
-use Rattle.std.proofs.Common.{◌≡◌, ◌∙◌, sym}
+use Rattle.std.proofs.Common.{◌∙◌, sym}
 use Rattle.fj_ideal.proofs.ReducedBasis.{Equal-same_members}
 use Rattle.fj_ideal.proofs.ideal.Ideal.same.Goals as goal
 

@@ -1,11 +1,10 @@
-use Rattle.std.proofs.Common.{◌≡◌, ◌↔◌, ◌<◌, ℕ, Bool, true, false, IsTrue, List, length, get_or, All, MatchBool, refl, sym, ap, ◌∙◌, subst, rules, tests}
+use Rattle.std.proofs.Common.{◌≡◌, ◌↔◌, ◌<◌, ℕ, Bool, true, false, IsTrue, List, length, All, MatchBool, refl, sym, subst, rules, tests}
 use Rattle.std.specs.List.{HoldsAt, AllWithin}
 use Rattle.std.specs.FinMap.{empty}
 use Rattle.std.proofs.lemmas.Iterator.{cases_from_all, YieldsList-from_slice}
-use Rattle.std.proofs.lemmas.List.{get_or_default}
 use Rattle.std.proofs.lemmas.List.Elements.{All-from_all_within}
 use Rattle.fj_theory.specs.Polynomial.{Polynomial}
-use Rattle.fj_theory.specs.Evaluation.{IsZeroOf, value}
+use Rattle.fj_theory.specs.Evaluation.{value}
 use Rattle.fj_ideal.proofs.ReducedBasis.{zeros_of_members}
 use Rattle.fj_ideal.proofs.ideal.Ideal.vanishes_at.Goals as goal
 
