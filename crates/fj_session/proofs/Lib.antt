@@ -6,6 +6,7 @@ pub mod HighProducts
 pub mod OwnStops
 pub mod Made
 pub mod Printed
+pub mod AnswerVariables
 pub mod Places
 pub mod Pieces
 pub mod Variables

@@ -36,7 +36,7 @@ key_of-IsMonomialOrder Grevlex = grevlex_key-IsMonomialOrder
 key_of-IsMonomialOrder Elim = elim_key-IsMonomialOrder
 
 -- A list that generates an ideal holds polynomials where one other list of the ideal does.
-polynomials_of_equal : {F : Field} (L : IsField F) {M N : List Polynomial} → ArePolynomials F N → Equal F M N → ArePolynomials F M
+pub polynomials_of_equal : {F : Field} (L : IsField F) {M N : List Polynomial} → ArePolynomials F N → Equal F M N → ArePolynomials F M
 polynomials_of_equal {F} L {M} {N} B E = record { each = All-weaker (Member F N) (IsPolynomial F) (λ g m. Member_polynomial L B m) M E.forth.each }
 
 -- A declared ideal is what `basis` asks for.
