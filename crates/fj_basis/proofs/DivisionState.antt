@@ -1,5 +1,5 @@
 -- What is seen of a division's fields, and how its steps change it.
-use Rattle.std.proofs.Common.{◌≡◌, ◌≢◌, ℕ, suc, ◌+◌, ◌^◌, ◌<◌, ◌≤◌, max, List, [], ◌∷◌, ◌++◌, length, take, get_or, set, All, IsTrue, Ordering, Less, Equal, Greater, Some, None, Option, true, is_some, slice_get, unwrap_or, refl, sym, ap, ap₂, ◌∙◌, subst, arith, ⊎_elim}
+use Rattle.std.proofs.Common.{◌≡◌, ◌≢◌, ℕ, ◌+◌, ◌<◌, ◌≤◌, max, List, [], ◌∷◌, take, get_or, set, All, IsTrue, Less, Greater, Some, None, Option, true, is_some, slice_get, unwrap_or, refl, sym, ap, ap₂, ◌∙◌, subst, arith, ⊎_elim}
 use Rattle.std.specs.Option.{option_map}
 use Rattle.std.specs.FinMap.{empty, len, len-empty}
 use Rattle.std.proofs.lemmas.Option.{slice_get-get_or, same_Some, none-some}

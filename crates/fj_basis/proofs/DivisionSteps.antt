@@ -1,14 +1,14 @@
 -- Steps by the first divisor.
-use Rattle.std.proofs.Common.{◌≡◌, ◌≢◌, ℕ, ◌+◌, ◌<◌, ◌≤◌, max, List, length, get_or, map, All, Some, None, IsTrue, refl, sym, ap, ap₂, ◌∙◌, subst, arith}
+use Rattle.std.proofs.Common.{◌≡◌, ◌≢◌, ℕ, ◌+◌, ◌<◌, max, List, length, get_or, map, All, Some, None, sym, ap, ◌∙◌}
 use Rattle.std.specs.FinMap.{empty}
-use Rattle.std.proofs.lemmas.List.{length-map, get_or-map}
+use Rattle.std.proofs.lemmas.List.{get_or-map}
 use Rattle.fj_algebra.proofs.Lists.{All-map_back}
 use Rattle.fj_coeff.specs.Field.{Field}
 use Rattle.fj_theory.specs.Exponents.{total, minus}
 use Rattle.fj_theory.specs.MonomialOrder.{IsMonomialOrder}
 use Rattle.fj_theory.specs.Polynomial.{Polynomial, lead}
 use Rattle.fj_theory.specs.Lead.{lead_exponents}
-use Rattle.fj_theory.specs.Division.{Sugared, AreWithinSugars, DegreeAtMost, Division, polynomials_of, member_at, first_divisor, step_by, cancel_lead, move_lead, IsDivisionStep, degree_limit}
+use Rattle.fj_theory.specs.Division.{Sugared, AreWithinSugars, DegreeAtMost, Division, polynomials_of, member_at, first_divisor, step_by, cancel_lead, move_lead, IsDivisionStep}
 use Rattle.fj_basis.proofs.DivisionState.{lead-parts, some-lead}
 
 -- The member at a place of a list that is seen by a function.

@@ -1,11 +1,10 @@
 -- Rows of cofactors over a prime field as the identities of a certificate.
-use Rattle.std.proofs.Common.{◌≡◌, ℕ, suc, ◌<◌, Contains, List, [], ◌∷◌, length, map, zip, All, refl, sym, ap, ◌∙◌, subst, arith}
+use Rattle.std.proofs.Common.{◌≡◌, ℕ, suc, List, [], ◌∷◌, map, zip, refl, sym, ap, ◌∙◌, subst, arith}
 use Rattle.std.proofs.lemmas.List.{length-map}
 use Rattle.std.proofs.lemmas.List.Elements.{All-nil, All-cons, All-map}
 use Rattle.fj_coeff.specs.Field.{Field, IsField}
-use Rattle.fj_coeff.specs.PrimeField.{prime_field}
-use Rattle.fj_theory.specs.Polynomial.{Polynomial, IsPolynomial}
-use Rattle.fj_theory.specs.Plain.{PlainPolynomial, HasRanksBelow, polynomial}
+use Rattle.fj_theory.specs.Polynomial.{IsPolynomial}
+use Rattle.fj_theory.specs.Plain.{PlainPolynomial, polynomial}
 use Rattle.fj_theory.specs.Ideal.{ArePolynomials}
 use Rattle.fj_theory.specs.Rows.{AreRows, IsRow}
 use Rattle.fj_theory.specs.Certificate.{AllRanksBelow, AllRowsBelow, IsExpressed, IsExpressedBothWays, IsRowOf}

@@ -1,9 +1,8 @@
 -- The acts of finishing, as the code goes through them.
-use Rattle.std.proofs.Common.{◌≡◌, ◌≢◌, ℕ, zero, suc, ◌+◌, ◌-◌, ◌<◌, ◌≤◌, ◌&&◌, ◌||◌, nat_lt, not, Bool, true, false, cond, is_gt, Ordering, Greater, List, [], ◌∷◌, ◌++◌, length, map, filter, take, drop, All, Contains, get_or, refl, sym, ap, ap₂, ◌∙◌, subst, arith, add-one, true≢false, Less, Equal, append_assoc}
-use Rattle.std.specs.List.{range_with_len, list_any}
-use Rattle.std.specs.FinMap.{empty}
+use Rattle.std.proofs.Common.{◌≡◌, ℕ, suc, ◌+◌, ◌<◌, ◌≤◌, ◌&&◌, ◌||◌, nat_lt, not, Bool, true, false, cond, is_gt, Ordering, Greater, List, [], ◌∷◌, ◌++◌, length, map, filter, take, drop, get_or, refl, sym, ap, ap₂, ◌∙◌, arith, add-one, Less, Equal, append_assoc}
+use Rattle.std.specs.List.{range_with_len}
 use Rattle.std.proofs.Math.Seq.{drop-cons, take-suc, take-append_seam, get_or-append_seam}
-use Rattle.std.proofs.lemmas.List.{length-map, get_or-map, drop_all, take_all, length-append, length-take-le}
+use Rattle.std.proofs.lemmas.List.{drop_all, take_all, length-append, length-take-le}
 use Rattle.std.proofs.lemmas.List.FromFn.{length-range_with_len, get_or-range_with_len, length-map-range_with_len, take-map-range_with_len, get_or-map-range_with_len}
 use Rattle.std.proofs.lemmas.List.Folds.{list_any_at, list_any_none}
 use Rattle.fj_theory.specs.Exponents.{divides}

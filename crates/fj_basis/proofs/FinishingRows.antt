@@ -1,20 +1,17 @@
 -- Members at their places, and quotients of divisions by members.
-use Rattle.std.proofs.Common.{◌≡◌, ◌≢◌, ℕ, ◌+◌, ◌<◌, ◌≤◌, List, [], ◌∷◌, ◌++◌, length, map, take, All, Any, get_or, refl, sym, ap, ap₂, ◌∙◌, subst, arith, add-one}
+use Rattle.std.proofs.Common.{◌≡◌, ◌≢◌, ℕ, ◌<◌, List, [], ◌∷◌, ◌++◌, length, All, get_or, sym, ap, ◌∙◌, arith}
 use Rattle.std.specs.FinMap.{empty}
-use Rattle.std.proofs.Math.Seq.{take-suc}
-use Rattle.std.proofs.lemmas.List.{get_or_default, get_or-map, length-map, map-append}
 use Rattle.fj_coeff.specs.Field.{Field, IsField}
-use Rattle.fj_theory.specs.Exponents.{total}
 use Rattle.fj_theory.specs.MonomialOrder.{IsMonomialOrder}
-use Rattle.fj_theory.specs.Polynomial.{Polynomial, IsPolynomial, coefficient}
+use Rattle.fj_theory.specs.Polynomial.{Polynomial, IsPolynomial}
 use Rattle.fj_theory.specs.Ideal.{ArePolynomials}
 use Rattle.fj_theory.specs.Lead.{lead_exponents}
-use Rattle.fj_theory.specs.Division.{Sugared, Division, AreWithinSugars, DegreeAtMost, IsLowDivision, degree_limit, member_at, polynomials_of}
+use Rattle.fj_theory.specs.Division.{Sugared, Division, AreWithinSugars, DegreeAtMost, IsLowDivision, degree_limit, polynomials_of}
 use Rattle.fj_theory.specs.Run.{given, lead_of}
 use Rattle.fj_theory.proofs.Division.{IsDivision-quotients, IsDivision-length}
 use Rattle.fj_theory.proofs.Sugar.{StepsTo-IsWithinSugar}
 use Rattle.fj_basis.specs.declared.members.Member.{Member}
-use Rattle.fj_basis.specs.Members.{sugared, sugared_members}
+use Rattle.fj_basis.specs.Members.{sugared_members}
 use Rattle.fj_basis.specs.Quotients.{AreQuotientsWithin}
 use Rattle.fj_basis.specs.Finished.{IsQuotients, AreQuotients}
 use Rattle.fj_basis.proofs.Subtracted.{member_at-sugared}

@@ -1,10 +1,8 @@
 -- The first divisor in a list, found from the front.
-use Rattle.std.proofs.Common.{◌≡◌, ℕ, zero, suc, ◌+◌, ◌<◌, ◌≤◌, Bool, true, false, cond, List, [], ◌∷◌, length, map, drop, get_or, Option, Some, None, refl, sym, ap, ap₂, ◌∙◌, subst, arith}
+use Rattle.std.proofs.Common.{◌≡◌, ℕ, suc, ◌+◌, ◌<◌, ◌≤◌, Bool, true, false, cond, List, length, drop, get_or, Option, Some, None, refl, sym, ap, ◌∙◌, arith}
 use Rattle.std.specs.Option.{option_map}
-use Rattle.std.specs.FinMap.{empty}
 use Rattle.std.proofs.lemmas.List.{drop_more, drop_all}
 use Rattle.fj_theory.specs.Exponents.{divides}
-use Rattle.fj_theory.specs.Polynomial.{Polynomial}
 use Rattle.fj_theory.specs.Lead.{lead_exponents}
 use Rattle.fj_theory.specs.Division.{Sugared, first_divisor}
 

@@ -1,5 +1,5 @@
 -- Refusals that come only where a condition holds.
-use Rattle.std.proofs.Common.{◌≡◌, Result, Ok, Err, sym, subst}
+use Rattle.std.proofs.Common.{◌≡◌, Result, Err, sym, subst}
 use Rattle.fj_poly.specs.declared.fault.PolyFault.{PolyFault}
 use Rattle.fj_poly.specs.declared.fault.PolyFault.TheVariants.{High, Memory}
 use Rattle.fj_poly.specs.Limit.{IsHighWhere}

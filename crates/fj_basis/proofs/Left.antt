@@ -1,31 +1,27 @@
 -- A polynomial cut at a place of its falling terms: its two parts, and what is left of it when a term moves from one to
 -- the other or something is added below the cut.
-use Rattle.std.proofs.Common.{◌≡◌, ◌≢◌, ℕ, zero, suc, ◌+◌, ◌<◌, ◌≤◌, List, [], ◌∷◌, ◌++◌, length, take, drop, get_or, All, Ordering, Less, Equal, Greater, Some, slice_get, refl, sym, ap, ap₂, ◌∙◌, subst, subst₂, arith, ⊎_elim, length-append}
+use Rattle.std.proofs.Common.{◌≡◌, ◌≢◌, ℕ, zero, suc, ◌+◌, ◌<◌, ◌≤◌, List, [], ◌∷◌, ◌++◌, length, take, drop, get_or, All, Ordering, Less, Equal, Greater, slice_get, refl, sym, ap, ap₂, ◌∙◌, subst, subst₂, arith, ⊎_elim, length-append}
 use Rattle.std.specs.FinMap.{empty, len}
 use Rattle.std.proofs.lemmas.List.{get_or-take, get_or_default, take-append-drop, take_at, drop_at, take_more, drop_more, drop_all, length-take-le, length-drop}
-use Rattle.std.proofs.lemmas.List.Elements.{All-nil, All-cons, All-head, All-tail}
-use Rattle.std.proofs.lemmas.Option.{slice_get-get_or}
+use Rattle.std.proofs.lemmas.List.Elements.{All-cons, All-head, All-tail}
 use Rattle.std.proofs.lemmas.Bool.{cases_lt}
-use Rattle.std.proofs.Math.Nat.{eq-or-lt_of_le}
 use Rattle.fj_coeff.specs.Field.{Field, IsField}
 use Rattle.fj_algebra.specs.Ring.{CommutativeRing, subtract}
 use Rattle.fj_algebra.proofs.Ring.{ring_laws as ring_rules}
 use Rattle.fj_theory.specs.Exponents.{IsExponents}
 use Rattle.fj_theory.specs.MonomialOrder.{IsMonomialOrder, compare_by}
-use Rattle.fj_theory.specs.Polynomial.{Polynomial, IsPolynomial, IsTerm, IsFalling, coefficient, term, sum, negation, terms_falling, lead}
-use Rattle.fj_theory.specs.Lead.{lead_exponents, lead_coefficient}
+use Rattle.fj_theory.specs.Polynomial.{Polynomial, IsPolynomial, IsTerm, IsFalling, coefficient, term, sum, terms_falling, lead}
 use Rattle.fj_theory.specs.Division.{difference}
 use Rattle.fj_theory.proofs.Field.{zero_below}
 use Rattle.fj_theory.proofs.MonomialOrder.{compare_by_exact}
-use Rattle.fj_theory.proofs.Polynomial.{coefficient-sum, coefficient-empty, IsPolynomial-sum, IsPolynomial-term}
-use Rattle.fj_theory.proofs.PolynomialRing.{PolynomialOver, polynomial_ring, map_add, sum_comm, sum_assoc, sum_empty}
+use Rattle.fj_theory.proofs.Polynomial.{coefficient-sum, IsPolynomial-sum, IsPolynomial-term}
+use Rattle.fj_theory.proofs.PolynomialRing.{polynomial_ring, map_add, sum_assoc, sum_empty}
 use Rattle.fj_theory.proofs.IdealBridge.{over}
 use Rattle.fj_theory.proofs.Division.{map_subtract}
-use Rattle.fj_theory.proofs.Lead.{above_lead, IsExponents-lead}
-use Rattle.fj_theory.proofs.Terms.{Falls, Falls-from_IsFalling, IsFalling-from_Falls, terms_falling-IsFalling, terms_falling-exponents, length-terms_falling, from_entries-terms_falling, IsTerm-terms_falling, falling_coefficients}
+use Rattle.fj_theory.proofs.Terms.{Falls, Falls-from_IsFalling, IsFalling-from_Falls, terms_falling-IsFalling, length-terms_falling, from_entries-terms_falling, IsTerm-terms_falling, falling_coefficients}
 use Rattle.fj_poly.specs.Terms.{AreTerms}
 use Rattle.fj_poly.proofs.Falling.{falling-places, falling-front, falling-back, terms-front, terms-back, terms-append, above_trans}
-use Rattle.fj_poly.proofs.Polynomials.{polynomial_of, each_term, IsPolynomial-polynomial_of, sum-append, sum-first, polynomial_of-term}
+use Rattle.fj_poly.proofs.Polynomials.{polynomial_of, IsPolynomial-polynomial_of, sum-append, sum-first, polynomial_of-term}
 use Rattle.fj_poly.proofs.Changed.{terms_from_each}
 use Rattle.fj_poly.proofs.View.{terms_falling-polynomial_of, polynomial_of-empty}
 use Rattle.fj_basis.specs.Left.{front, back}

@@ -1,6 +1,5 @@
 -- The cofactors of a basis both ways, and the run that is finished with it.
-use Rattle.std.proofs.Common.{◌≡◌, ◌≢◌, ℕ, suc, ◌<◌, ◌≤◌, List, [], ◌∷◌, length, map, All, Any, Contains, refl, sym, ap, ap₂, ◌∙◌, subst, subst₂, arith}
-use Rattle.std.specs.FinMap.{empty}
+use Rattle.std.proofs.Common.{◌≡◌, ℕ, suc, List, [], ◌∷◌, length, map, All, Any, Contains, refl, sym, ap, ◌∙◌, subst, subst₂}
 use Rattle.std.proofs.lemmas.List.{length-map}
 use Rattle.std.proofs.lemmas.List.Elements.{All-nil, All-cons, All-head, All-tail}
 use Rattle.fj_coeff.specs.Field.{Field, IsField}
@@ -23,7 +22,7 @@ use Rattle.fj_basis.specs.declared.members.Member as code
 use Rattle.fj_basis.specs.declared.run.Run as code_run
 use Rattle.fj_basis.specs.Basis.{IsMadeOf, IsResult, WithCofactors}
 use Rattle.fj_basis.specs.Finished.{AreMembersOfRun, AreQuotients, IsHighReplacing, IsQuotients}
-use Rattle.fj_basis.specs.Members.{IsTraced, sugared, sugared_members}
+use Rattle.fj_basis.specs.Members.{IsTraced, sugared_members}
 use Rattle.fj_basis.specs.State.{ArePending, IsEnded}
 use Rattle.fj_basis.proofs.ReplacingSteps.{AreDivisors, IsReplacing-AreDivisors}
 use Rattle.fj_basis.proofs.RowBounds.{traced-AreRows}

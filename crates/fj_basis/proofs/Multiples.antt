@@ -1,19 +1,18 @@
 -- Multiples of a polynomial by a term: their signs, their terms above the lead, and their degree.
-use Rattle.std.proofs.Common.{◌≡◌, ◌≢◌, ℕ, ◌+◌, ◌^◌, ◌<◌, ◌≤◌, Bool, true, false, cond, IsTrue, List, Option, Some, None, Less, refl, sym, ap, ap₂, ◌∙◌, subst, arith, ⊎_elim, eq-zero-or-pos, ltb-true}
+use Rattle.std.proofs.Common.{◌≡◌, ◌≢◌, ℕ, ◌+◌, ◌^◌, ◌<◌, ◌≤◌, Bool, true, false, cond, List, Option, Some, None, Less, refl, sym, ap, ap₂, ◌∙◌, arith, ⊎_elim, eq-zero-or-pos}
 use Rattle.std.specs.FinMap.{empty}
 use Rattle.fj_coeff.specs.Field.{Field, IsField}
-use Rattle.fj_algebra.specs.Ring.{CommutativeRing}
 use Rattle.fj_algebra.proofs.Ring.{neg_mul, mul_zero}
 use Rattle.fj_theory.specs.Exponents.{IsExponents, total, plus, minus, divides}
 use Rattle.fj_theory.specs.MonomialOrder.{IsMonomialOrder, compare_by}
-use Rattle.fj_theory.specs.Polynomial.{Polynomial, IsPolynomial, coefficient, degree, term, negation, product, sum}
+use Rattle.fj_theory.specs.Polynomial.{Polynomial, IsPolynomial, coefficient, degree, term, negation, product}
 use Rattle.fj_theory.specs.Lead.{lead_exponents}
 use Rattle.fj_theory.specs.Division.{DegreeAtMost}
 use Rattle.fj_theory.proofs.Exponents.{IsExponents-minus, plus-minus}
-use Rattle.fj_theory.proofs.Field.{Element, element, field_ring, rank_element, element_mul, element_zero, element_rank, rank_mul, rank_zero, zero_below}
+use Rattle.fj_theory.proofs.Field.{element, field_ring, rank_element, rank_mul, rank_zero, zero_below}
 use Rattle.fj_theory.proofs.MonomialOrder.{compare_by-plus_left}
 use Rattle.fj_theory.proofs.Polynomial.{polynomial_equal, coefficient-term, IsPolynomial-term, IsPolynomial-empty}
-use Rattle.fj_theory.proofs.PolynomialRing.{PolynomialOver, polynomial_ring, map_mul, map_neg, coefficient-negation, IsPolynomial-negation, neg_zero_rank, product_empty, product_comm}
+use Rattle.fj_theory.proofs.PolynomialRing.{polynomial_ring, map_mul, map_neg, coefficient-negation, IsPolynomial-negation, neg_zero_rank, product_empty, product_comm}
 use Rattle.fj_theory.proofs.IdealBridge.{over}
 use Rattle.fj_theory.proofs.FormalSum.{same}
 use Rattle.fj_theory.proofs.Lead.{above_lead, IsExponents-lead}

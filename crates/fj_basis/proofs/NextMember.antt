@@ -1,17 +1,17 @@
 -- The member that a pair of a run gives.
-use Rattle.std.proofs.Common.{◌≡◌, ◌≢◌, ℕ, zero, suc, ◌+◌, ◌-◌, ◌<◌, ◌≤◌, max, Option, Some, None, List, [], ◌∷◌, get_or, length, map, replicate, All, IsTrue, refl, sym, ap, ap₂, ◌∙◌, subst, subst₂, arith}
+use Rattle.std.proofs.Common.{◌≡◌, ◌≢◌, ℕ, zero, suc, ◌+◌, ◌-◌, ◌<◌, ◌≤◌, Option, Some, None, List, [], ◌∷◌, get_or, length, map, replicate, All, IsTrue, refl, sym, ap, ap₂, ◌∙◌, subst, subst₂, arith}
 use Rattle.std.specs.FinMap.{empty}
 use Rattle.std.proofs.lemmas.List.{get_or_default}
 use Rattle.std.proofs.lemmas.List.Elements.{All-map, All-replicate, All-weaker}
 use Rattle.fj_coeff.specs.Field.{Field, IsField}
 use Rattle.fj_theory.specs.Exponents.{IsExponents, divides, minus, origin, total}
 use Rattle.fj_theory.specs.MonomialOrder.{IsMonomialOrder}
-use Rattle.fj_theory.specs.Polynomial.{Polynomial, IsPolynomial, coefficient, negation, product, sum, term}
+use Rattle.fj_theory.specs.Polynomial.{Polynomial, IsPolynomial, coefficient, product, sum, term}
 use Rattle.fj_theory.specs.Ideal.{ArePolynomials}
 use Rattle.fj_theory.specs.Lead.{lead_coefficient, lead_exponents, made_monic}
-use Rattle.fj_theory.specs.Rows.{IsRow, add_multiple, add_multiples}
+use Rattle.fj_theory.specs.Rows.{IsRow, add_multiple}
 use Rattle.fj_theory.specs.Steps.{StepsTo}
-use Rattle.fj_theory.specs.Division.{DegreeAtMost, Division, IsDivisionStep, IsHighDivision, IsLowDivision, IsWithinSugar, Sugared, cancel_lead, degree_limit, difference, division_start, first_divisor, member_at, move_lead, polynomials_of, step_by}
+use Rattle.fj_theory.specs.Division.{DegreeAtMost, Division, IsDivisionStep, IsHighDivision, IsLowDivision, IsWithinSugar, Sugared, cancel_lead, degree_limit, difference, division_start, first_divisor, member_at, move_lead, step_by}
 use Rattle.fj_theory.specs.Run.{lead_of, monic_member, pair_multiple, s_polynomial}
 use Rattle.fj_theory.proofs.Degree.{product_nonzero}
 use Rattle.fj_theory.proofs.Division.{IsDivision-quotients, IsDivision-remainder_polynomial}
@@ -28,7 +28,7 @@ use Rattle.fj_theory.proofs.Steps.{StepsTo-keeps}
 use Rattle.fj_theory.proofs.Sugar.{DegreeAtMost-made_monic, StepsTo-IsWithinSugar}
 use Rattle.fj_basis.specs.declared.members.Member.{Member}
 use Rattle.fj_basis.specs.Members.{IsTraced, sugared, sugared_members}
-use Rattle.fj_basis.specs.State.{IsNextMember, row_at, s_polynomial_row}
+use Rattle.fj_basis.specs.State.{row_at, s_polynomial_row}
 use Rattle.fj_basis.proofs.UnderWay.{member-polynomial}
 use Rattle.fj_basis.proofs.Leading.{member_is, row_at-is, AreGood, first-divides, lead-exponents, lead-total, places, row-traced, s-polynomial, s-sugar, second-divides}
 use Rattle.fj_basis.proofs.Multiples.{product_term-negation, quotient_nonzero}

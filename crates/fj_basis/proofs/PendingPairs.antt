@@ -1,14 +1,13 @@
 -- The pending pairs of a run, as its turns change them.
-use Rattle.std.proofs.Common.{◌≡◌, ◌≢◌, ◌⊎◌, inl, inr, ℕ, ◌+◌, ◌<◌, ◌≤◌, ◌==◌, ◌&&◌, nat_le, not, Bool, true, false, cond, Option, Some, None, Ordering, Less, Equal, Greater, List, [], ◌∷◌, ◌++◌, length, map, filter, All, Contains, get_or, nat_cmp, refl, sym, ap, ap₂, ◌∙◌, subst, arith, true≢false, eq-eqb}
-use Rattle.std.specs.List.{flat_map, range_with_len}
+use Rattle.std.proofs.Common.{◌≡◌, ◌≢◌, ◌⊎◌, inl, inr, ℕ, ◌<◌, ◌≤◌, ◌==◌, ◌&&◌, nat_le, not, Bool, true, false, cond, Option, Some, None, Ordering, Less, Greater, List, [], ◌∷◌, ◌++◌, length, All, Contains, get_or, nat_cmp, refl, sym, ap, ap₂, ◌∙◌, subst, arith, true≢false, eq-eqb}
+use Rattle.std.specs.List.{range_with_len}
 use Rattle.std.specs.Cmp.Lexicographic.{slice_cmp, nat_list_cmp_total}
 use Rattle.std.specs.FinMap.{empty}
 use Rattle.std.specs.Ordering.{on, ordering_reverse}
-use Rattle.std.proofs.lemmas.List.{length-map, get_or_append_left}
+use Rattle.std.proofs.lemmas.List.{get_or_append_left}
 use Rattle.std.proofs.lemmas.List.Elements.{All-contains, All-weaker, Contains-append_left, Contains-append_right, Contains-append_cases}
 use Rattle.std.proofs.lemmas.Bool.Decides.{nat_tests}
-use Rattle.std.proofs.lemmas.Map.Lookups.{exact_bytes}
-use Rattle.fj_algebra.proofs.Pairs.{All-from_elements, contains_cons, contains_filter, contains_head, contains_map, contains_map_back, contains_nil, contains_tail, filter_contains}
+use Rattle.fj_algebra.proofs.Pairs.{All-from_elements, contains_cons, contains_filter, contains_head, contains_map, contains_map_back, contains_tail, filter_contains}
 use Rattle.fj_mono.specs.Monomial.{Monomial}
 use Rattle.fj_theory.specs.Exponents.{least_common_multiple, total}
 use Rattle.fj_theory.specs.Lead.{lead_exponents}

@@ -1,23 +1,21 @@
 -- The states that a division reaches, and its end.
-use Rattle.std.proofs.Common.{◌≡◌, ◌≢◌, ℕ, ◌+◌, ◌^◌, ◌<◌, ◌≤◌, List, [], ◌∷◌, ◌++◌, length, get_or, map, replicate, All, Less, Option, Some, None, slice_get, refl, sym, ap, ap₂, ◌∙◌, subst, subst₂, arith}
+use Rattle.std.proofs.Common.{◌≡◌, ◌≢◌, ℕ, ◌^◌, ◌<◌, ◌≤◌, List, [], ◌∷◌, ◌++◌, length, map, replicate, All, Less, Some, None, refl, sym, ap, ◌∙◌, subst, subst₂, arith}
 use Rattle.std.specs.FinMap.{empty}
 use Rattle.std.proofs.lemmas.List.{length-map, length-replicate, get_or-replicate}
 use Rattle.fj_coeff.specs.Field.{Field, IsField}
 use Rattle.fj_theory.specs.Exponents.{IsExponents, total}
 use Rattle.fj_theory.specs.MonomialOrder.{IsMonomialOrder, compare_by}
-use Rattle.fj_theory.specs.Polynomial.{Polynomial, IsPolynomial, coefficient, lead, terms_falling}
+use Rattle.fj_theory.specs.Polynomial.{Polynomial, IsPolynomial, coefficient, lead}
 use Rattle.fj_theory.specs.Ideal.{ArePolynomials}
-use Rattle.fj_theory.specs.Lead.{lead_exponents, lead_coefficient}
+use Rattle.fj_theory.specs.Lead.{lead_exponents}
 use Rattle.fj_theory.specs.Steps.{StepsTo}
-use Rattle.fj_theory.specs.Division.{Sugared, Division, polynomials_of, AreWithinSugars, DegreeAtMost, IsDivisionStep, IsDivision, IsLowDivision, IsHighDivision, division_start, degree_limit, first_divisor, step_by}
+use Rattle.fj_theory.specs.Division.{Sugared, Division, polynomials_of, AreWithinSugars, DegreeAtMost, IsDivisionStep, IsLowDivision, IsHighDivision, division_start, degree_limit, first_divisor, step_by}
 use Rattle.fj_theory.proofs.Division.{IsDivisionStep-falls}
 use Rattle.fj_theory.proofs.Lead.{IsExponents-lead, coefficient-lead, lead_coefficient-nonzero}
 use Rattle.fj_theory.proofs.Polynomial.{coefficient-empty, IsPolynomial-empty}
 use Rattle.fj_theory.proofs.Sugar.{StepsTo-IsWithinSugar}
-use Rattle.fj_theory.proofs.Terms.{from_entries-terms_falling}
-use Rattle.fj_poly.proofs.Polynomials.{polynomial_of}
 use Rattle.fj_basis.specs.Quotients.{IsUnderWay}
-use Rattle.fj_basis.proofs.DivisionState.{lead-none, lead-parts, some-lead, lead-positive}
+use Rattle.fj_basis.proofs.DivisionState.{lead-none, lead-parts, some-lead}
 use Rattle.fj_basis.proofs.Height.{height, height-less}
 use Rattle.fj_basis.proofs.UnderWay.{StepsTo-more, IsUnderWay-step}
 

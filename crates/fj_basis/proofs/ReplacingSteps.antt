@@ -1,13 +1,13 @@
 -- The second act of finishing, as the code goes through it: members are replaced in turn, with their cofactors.
-use Rattle.std.proofs.Common.{◌≡◌, ◌≢◌, ℕ, ◌<◌, ◌≤◌, List, [], ◌∷◌, ◌++◌, length, map, All, Contains, refl, sym, ap, ◌∙◌, subst, subst₂, arith}
+use Rattle.std.proofs.Common.{◌≡◌, ◌≢◌, ℕ, ◌≤◌, List, [], ◌∷◌, ◌++◌, length, map, All, Contains, refl, sym, ap, ◌∙◌, subst, subst₂, arith}
 use Rattle.std.specs.FinMap.{empty}
 use Rattle.std.proofs.lemmas.List.{map-append}
-use Rattle.std.proofs.lemmas.List.Elements.{All-nil, All-push, All-head, All-tail, All-contains, All-weaker, All-map}
+use Rattle.std.proofs.lemmas.List.Elements.{All-nil, All-push, All-head, All-tail, All-contains, All-weaker}
 use Rattle.fj_coeff.specs.Field.{Field, IsField}
 use Rattle.fj_theory.specs.MonomialOrder.{IsMonomialOrder}
-use Rattle.fj_theory.specs.Polynomial.{Polynomial, IsPolynomial, negation}
+use Rattle.fj_theory.specs.Polynomial.{Polynomial, IsPolynomial}
 use Rattle.fj_theory.specs.Ideal.{ArePolynomials}
-use Rattle.fj_theory.specs.Rows.{IsRow, add_multiples}
+use Rattle.fj_theory.specs.Rows.{IsRow}
 use Rattle.fj_theory.specs.Division.{AreWithinSugars, DegreeAtMost, IsHighDivision, Sugared, degree_limit, polynomials_of}
 use Rattle.fj_theory.specs.Run.{IsReplacement, IsReplacing, Replacing, kept_members, sort_by_lead}
 use Rattle.fj_theory.proofs.Division.{IsDivision-quotients}

@@ -1,5 +1,5 @@
 -- Rows of cofactors entry by entry, as the code changes them.
-use Rattle.std.proofs.Common.{◌≡◌, ◌≢◌, ℕ, zero, suc, ◌+◌, ◌^◌, ◌<◌, ◌≤◌, Option, Some, None, List, [], ◌∷◌, ◌++◌, nat_cmp, length, map, take, All, get_or, set, refl, sym, ap, ap₂, ◌∙◌, subst, arith, add-one, eq-zero-or-pos, ⊎_elim}
+use Rattle.std.proofs.Common.{◌≡◌, ℕ, zero, suc, ◌+◌, ◌^◌, ◌<◌, ◌≤◌, Option, Some, None, List, [], ◌∷◌, ◌++◌, nat_cmp, length, map, take, get_or, set, refl, sym, ap, ap₂, ◌∙◌, arith, add-one, eq-zero-or-pos, ⊎_elim}
 use Rattle.std.specs.List.{flat_map}
 use Rattle.std.specs.FinMap.{empty, entries, len-entries, len-empty}
 use Rattle.std.specs.Cmp.Lexicographic.{slice_cmp}
@@ -12,10 +12,10 @@ use Rattle.fj_theory.specs.Rows.{add_multiple, add_multiples}
 use Rattle.fj_theory.specs.Division.{DegreeAtMost}
 use Rattle.fj_theory.proofs.Exponents.{IsExponents-origin}
 use Rattle.fj_theory.proofs.Field.{one_below}
-use Rattle.fj_theory.proofs.Polynomial.{IsPolynomial-empty, IsPolynomial-sum}
+use Rattle.fj_theory.proofs.Polynomial.{IsPolynomial-sum}
 use Rattle.fj_theory.proofs.Product.{IsPolynomial-product}
-use Rattle.fj_theory.proofs.PolynomialRing.{sum_empty, product_empty, product_comm, product_one, coefficient-negation, neg_zero_rank}
-use Rattle.fj_theory.proofs.IdealBridge.{IsPolynomial-one, ArePolynomials-nil, ArePolynomials-cons, ArePolynomials-head, ArePolynomials-tail}
+use Rattle.fj_theory.proofs.PolynomialRing.{sum_empty, product_comm, product_one, coefficient-negation, neg_zero_rank}
+use Rattle.fj_theory.proofs.IdealBridge.{IsPolynomial-one, ArePolynomials-cons, ArePolynomials-head, ArePolynomials-tail}
 use Rattle.fj_theory.proofs.Degree.{degree-product, degree_attained}
 use Rattle.fj_poly.specs.Limit.{IsHigh}
 use Rattle.fj_poly.proofs.Limits.{low_degree, low_product_none, low_product_none_right}

@@ -1,5 +1,5 @@
 -- The start of a run, a given polynomial at a time.
-use Rattle.std.proofs.Common.{◌≡◌, ◌≢◌, ℕ, zero, suc, ◌+◌, ◌<◌, ◌≤◌, ◌==◌, not, Bool, true, false, cond, List, [], ◌∷◌, ◌++◌, length, length-append, map, filter, take, get_or, set, replicate, All, Contains, refl, sym, ap, ap₂, ◌∙◌, subst, subst₂, arith, add-one, eq-eqb}
+use Rattle.std.proofs.Common.{◌≡◌, ◌≢◌, ℕ, ◌+◌, ◌<◌, ◌≤◌, ◌==◌, not, Bool, true, false, cond, List, [], ◌∷◌, ◌++◌, length, length-append, map, filter, take, get_or, set, replicate, All, Contains, refl, sym, ap, ap₂, ◌∙◌, subst, subst₂, arith, add-one, eq-eqb}
 use Rattle.std.specs.List.{flat_map, range_with_len}
 use Rattle.std.specs.FinMap.{empty, len, len-empty, empty_of_len}
 use Rattle.std.specs.Cmp.Lexicographic.{slice_cmp}
@@ -10,11 +10,11 @@ use Rattle.std.proofs.lemmas.Grind.{flat_map-append}
 use Rattle.std.proofs.lemmas.List.{append-nil, length-map, map-append, map-id, take_all}
 use Rattle.std.proofs.lemmas.List.Elements.{All-nil, All-replicate, All-set, filter-append}
 use Rattle.std.proofs.lemmas.List.FromFn.{map-range_with_len_more}
-use Rattle.fj_algebra.proofs.Pairs.{All-from_elements, contains_nil}
+use Rattle.fj_algebra.proofs.Pairs.{contains_nil}
 use Rattle.fj_coeff.specs.Field.{Field, IsField}
-use Rattle.fj_theory.specs.Exponents.{origin, total}
+use Rattle.fj_theory.specs.Exponents.{origin}
 use Rattle.fj_theory.specs.MonomialOrder.{IsMonomialOrder}
-use Rattle.fj_theory.specs.Polynomial.{Polynomial, IsPolynomial, term}
+use Rattle.fj_theory.specs.Polynomial.{Polynomial, term}
 use Rattle.fj_theory.specs.Ideal.{ArePolynomials}
 use Rattle.fj_theory.specs.Lead.{lead_coefficient, made_monic}
 use Rattle.fj_theory.specs.Rows.{IsRow}
@@ -29,7 +29,6 @@ use Rattle.fj_theory.proofs.Rows.{IsRow-one}
 use Rattle.fj_theory.proofs.Run.{of_all_pairs}
 use Rattle.fj_theory.proofs.Sugar.{DegreeAtMost-made_monic, given-DegreeAtMost}
 use Rattle.fj_basis.specs.declared.members.Member.{Member}
-use Rattle.fj_basis.specs.declared.pairs.Pair.{Pair}
 use Rattle.fj_basis.specs.declared.run.Run.{Run}
 use Rattle.fj_basis.specs.Members.{IsTraced, sugared, sugared_members}
 use Rattle.fj_basis.specs.State.{ArePending, HasPairsWith, IsAfter}

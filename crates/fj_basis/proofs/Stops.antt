@@ -1,5 +1,5 @@
 -- Faults of a run and of its finishing, handed on.
-use Rattle.std.proofs.Common.{◌≡◌, Result, Ok, Err, sym, ap, ◌∙◌, subst}
+use Rattle.std.proofs.Common.{◌≡◌, Result, Err, sym, ap, ◌∙◌, subst}
 use Rattle.fj_poly.specs.declared.fault.PolyFault.{PolyFault}
 use Rattle.fj_poly.specs.declared.fault.PolyFault.TheVariants as product
 use Rattle.fj_basis.specs.declared.calculation.RunFault.{RunFault}

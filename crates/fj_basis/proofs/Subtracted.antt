@@ -1,13 +1,13 @@
 -- Rows and quotients at their places.
-use Rattle.std.proofs.Common.{◌≡◌, ℕ, ◌+◌, ◌^◌, ◌<◌, ◌≤◌, List, length, map, All, get_or, refl, sym, ap, ap₂, ◌∙◌, subst, arith}
+use Rattle.std.proofs.Common.{◌≡◌, ℕ, ◌+◌, ◌^◌, ◌<◌, ◌≤◌, List, length, get_or, ◌∙◌, subst}
 use Rattle.std.specs.FinMap.{empty}
-use Rattle.std.proofs.lemmas.List.{get_or_default, get_or-map, length-map}
+use Rattle.std.proofs.lemmas.List.{get_or_default, get_or-map}
 use Rattle.fj_coeff.specs.Field.{Field, IsField}
 use Rattle.fj_theory.specs.Exponents.{total}
 use Rattle.fj_theory.specs.Polynomial.{Polynomial, coefficient, negation}
 use Rattle.fj_theory.specs.Division.{Sugared, degree_limit, member_at}
 use Rattle.fj_basis.specs.declared.members.Member.{Member}
-use Rattle.fj_basis.specs.Members.{IsRowWithin, sugared, sugared_members}
+use Rattle.fj_basis.specs.Members.{sugared, sugared_members}
 use Rattle.fj_basis.specs.Quotients.{AreQuotientsWithin}
 use Rattle.fj_basis.proofs.Rows.{negation-positive}
 

@@ -1,5 +1,5 @@
 -- Turns of a run, as the code makes them.
-use Rattle.std.proofs.Common.{◌≡◌, ◌≢◌, ℕ, suc, ◌+◌, ◌<◌, ◌≤◌, ◌==◌, ◌&&◌, not, Bool, true, false, cond, Option, Some, None, Less, List, [], ◌∷◌, ◌++◌, length, length-append, map, filter, All, Contains, refl, sym, ap, ap₂, ◌∙◌, subst, subst₂, arith, eq-eqb}
+use Rattle.std.proofs.Common.{◌≡◌, ◌≢◌, ℕ, suc, ◌<◌, ◌==◌, ◌&&◌, not, true, false, cond, Some, None, Less, List, [], ◌∷◌, ◌++◌, length, length-append, All, Contains, refl, sym, ap, ap₂, ◌∙◌, subst, subst₂, arith, eq-eqb}
 use Rattle.std.specs.FinMap.{empty, len, len-empty, empty_of_len}
 use Rattle.std.specs.Cmp.Lexicographic.{slice_cmp}
 use Rattle.std.specs.Ordering.{nat_cmp}
@@ -11,7 +11,7 @@ use Rattle.fj_coeff.specs.Field.{Field, IsField}
 use Rattle.fj_theory.specs.MonomialOrder.{IsMonomialOrder}
 use Rattle.fj_theory.specs.Polynomial.{Polynomial}
 use Rattle.fj_theory.specs.Ideal.{ArePolynomials}
-use Rattle.fj_theory.specs.Division.{Division, IsHighDivision, IsLowDivision, Sugared}
+use Rattle.fj_theory.specs.Division.{Division, IsHighDivision, IsLowDivision}
 use Rattle.fj_theory.specs.Run as definition
 use Rattle.fj_theory.specs.Run.{IsHighTurn, IsNext, IsRun, IsTurn, append_member, drop_pair, dropped, has_coprime_leads, monic_member, run_start, s_polynomial, treat_pair, treated}
 use Rattle.fj_theory.proofs.Division.{IsDivision-remainder_polynomial, same_length}
@@ -22,7 +22,7 @@ use Rattle.fj_basis.specs.declared.pairs.Pair.{Pair}
 use Rattle.fj_basis.specs.declared.run.Run.{Run}
 use Rattle.fj_basis.specs.Finished.{AreMembersOfRun}
 use Rattle.fj_basis.specs.Members.{IsTraced, sugared, sugared_members}
-use Rattle.fj_basis.specs.State.{ArePending, HasPairsWith, IsAfter, IsHighNext, IsNextMember, IsPairOf}
+use Rattle.fj_basis.specs.State.{ArePending, HasPairsWith, IsAfter, IsNextMember, IsPairOf}
 use Rattle.fj_basis.proofs.Gathered.{gathered_all}
 use Rattle.fj_basis.proofs.Leading.{AreGood, IsRun-AreGood, nonzero_members, state-good}
 use Rattle.fj_basis.proofs.NextMember.{made_monic-nonzero, next-IsTraced}

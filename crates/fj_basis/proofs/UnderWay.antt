@@ -1,23 +1,22 @@
 -- What each step of a division keeps, and that its end is a division.
-use Rattle.std.proofs.Common.{◌≡◌, ◌≢◌, ◌⊎◌, inl, inr, ℕ, zero, suc, ◌+◌, ◌<◌, ◌≤◌, Bool, true, false, cond, IsTrue, List, [], ◌∷◌, ◌++◌, length, get_or, set, replicate, map, All, Option, Some, None, Ordering, Less, Equal, Greater, refl, sym, ap, ap₂, ◌∙◌, subst, subst₂, arith, ⊎_elim, eq-zero-or-pos}
+use Rattle.std.proofs.Common.{◌≡◌, ◌≢◌, ◌⊎◌, inl, inr, ℕ, ◌<◌, IsTrue, List, [], ◌∷◌, ◌++◌, length, get_or, set, All, Option, Some, None, Greater, refl, sym, ap, ◌∙◌, subst, arith, ⊎_elim}
 use Rattle.std.specs.FinMap.{empty}
-use Rattle.std.proofs.lemmas.List.{length-set, length-replicate, get_or-set_same, get_or-set_other, get_or-replicate}
-use Rattle.std.proofs.lemmas.List.Elements.{All-head}
+use Rattle.std.proofs.lemmas.List.{length-set, get_or-set_same, get_or-set_other}
 use Rattle.std.proofs.lemmas.Bool.{cases_order}
 use Rattle.fj_algebra.proofs.Lists.{All-map_back}
 use Rattle.fj_coeff.specs.Field.{Field, IsField}
-use Rattle.fj_theory.specs.Exponents.{IsExponents, total, plus, minus, divides}
+use Rattle.fj_theory.specs.Exponents.{IsExponents, plus, minus, divides}
 use Rattle.fj_theory.specs.MonomialOrder.{IsMonomialOrder, compare_by}
-use Rattle.fj_theory.specs.Polynomial.{Polynomial, IsPolynomial, IsTerm, coefficient, term, sum, terms_falling}
+use Rattle.fj_theory.specs.Polynomial.{Polynomial, IsPolynomial, coefficient, term, sum, terms_falling}
 use Rattle.fj_theory.specs.Ideal.{ArePolynomials}
 use Rattle.fj_theory.specs.Lead.{lead_exponents, lead_coefficient}
 use Rattle.fj_theory.specs.Steps.{StepsTo}
-use Rattle.fj_theory.specs.Division.{Sugared, Division, polynomials_of, member_at, first_divisor, step_by, cancel_lead, move_lead, IsDivisionStep, IsDivision, IsLowDivision, IsHighDivision, division_start, degree_limit}
+use Rattle.fj_theory.specs.Division.{Sugared, Division, polynomials_of, member_at, first_divisor, step_by, cancel_lead, move_lead, IsDivisionStep}
 use Rattle.fj_theory.proofs.Exponents.{IsExponents-minus, plus-minus, plus_comm}
 use Rattle.fj_theory.proofs.Field.{zero_below}
 use Rattle.fj_theory.proofs.Lead.{IsExponents-lead, lead_coefficient-below, lead_coefficient-nonzero}
 use Rattle.fj_theory.proofs.MonomialOrder.{compare_by-plus}
-use Rattle.fj_theory.proofs.Polynomial.{coefficient-empty, IsPolynomial-sum, IsPolynomial-term, IsPolynomial-empty}
+use Rattle.fj_theory.proofs.Polynomial.{IsPolynomial-sum, IsPolynomial-term}
 use Rattle.fj_theory.proofs.Terms.{terms_falling-exponents, terms_falling-IsFalling, falling_coefficients, from_entries-terms_falling, IsTerm-terms_falling}
 use Rattle.fj_theory.proofs.Division.{first_divisor-Some, IsDivisionStep-polynomial, IsDivisionStep-falls}
 use Rattle.fj_poly.proofs.Falling.{above_from_below, above_trans}

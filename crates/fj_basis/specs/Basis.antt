@@ -1,5 +1,5 @@
 -- A basis with cofactors both ways.
-use Rattle.std.specs.Prelude.{◌≡◌, ℕ, ◌≤◌, List, [], map, length, All, slice_index_or}
+use Rattle.std.specs.Prelude.{◌≡◌, ℕ, List, [], map, slice_index_or}
 use Rattle.std.specs.FinMap.{empty, code}
 use Rattle.std.specs.Coded.{Coded, coded_list, coded×, coded_ℕ}
 use base.Stored.{coded_via}

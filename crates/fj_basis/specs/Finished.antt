@@ -1,5 +1,5 @@
 -- What finishing has found.
-use Rattle.std.specs.Prelude.{◌≡◌, ℕ, List, [], ◌∷◌, map, length, All}
+use Rattle.std.specs.Prelude.{◌≡◌, ℕ, List, [], ◌∷◌, map, All}
 use Rattle.fj_coeff.specs.Field.{Field}
 use Rattle.fj_theory.specs.Polynomial.{Polynomial, negation}
 use Rattle.fj_theory.specs.Ideal.{ArePolynomials}

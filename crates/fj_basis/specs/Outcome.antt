@@ -1,5 +1,5 @@
 -- Why calculations stop, and what they say then.
-use Rattle.std.specs.Prelude.{◌≡◌, ℕ, List, map, Result, Ok, Err}
+use Rattle.std.specs.Prelude.{◌≡◌, List, map, Result, Ok, Err}
 use Rattle.fj_theory.specs.Plain as plain
 use Rattle.fj_theory.specs.Polynomial.{Polynomial}
 use Rattle.fj_poly.specs.declared.fault.PolyFault.{PolyFault}

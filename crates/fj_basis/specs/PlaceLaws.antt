@@ -1,5 +1,5 @@
 -- That comparing lists of numbers that values have is an order of the values.
-use Rattle.std.specs.Prelude.{◌≡◌, ℕ, List, Bool, refl}
+use Rattle.std.specs.Prelude.{ℕ, List}
 use Rattle.std.specs.Cmp.{IsTotalOrder, IsEquivalence, IsPartialEquivalence, IsPartialOrder, partial_equiv_from_equiv, eq_by_cmp_equiv, on_total, partial_order_from_total}
 use Rattle.std.specs.Cmp.Lexicographic.{slice_cmp, nat_list_cmp_total}
 use Rattle.std.specs.Ordering.{as_partial_cmp, eq_by_cmp, nat_cmp, on}

@@ -1,6 +1,5 @@
 ghost use Rattle.std.specs.Prelude.{◌≡◌, ◌≤◌, IfOk, length};
 ghost use Rattle.fj_theory.specs.ReducedBasis.{IsReducedBasis};
-ghost use Rattle.fj_theory.specs.Rows.{AreRows};
 ghost use Rattle.fj_theory.specs.Run.{TooHigh, Unfinished};
 ghost use Rattle.fj_plain.specs.OrderRow.{order_in_row};
 ghost use Rattle.fj_basis.specs.Basis.{IsMadeOf, IsResult};

@@ -6,3 +6,6 @@ mod membership;
 mod operations;
 
 pub use ideal::Ideal;
+
+#[cfg(test)]
+mod tests;

@@ -1,6 +1,13 @@
 pub mod Primes
 pub mod Known
 pub mod Residues
+pub mod Stops
+pub mod HighProducts
+pub mod OwnStops
+pub mod Made
+pub mod Printed
+pub mod AnswerVariables
+pub mod Places
 pub mod Pieces
 pub mod Variables
 pub mod ReadBytes

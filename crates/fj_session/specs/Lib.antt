@@ -1,4 +1,9 @@
-pub mod Answer
 pub mod Asked
+pub mod Named
+pub mod Lists
+pub mod Statement
+pub mod Stop
+pub mod Answer
+pub mod Outcome
 pub mod Text
 pub mod Program

@@ -10,7 +10,7 @@ use Rattle.fj_script.specs.declared.question.Asked.{Asked}
 use Rattle.fj_script.specs.declared.script.Env.{Env}
 use Rattle.fj_script.specs.declared.script.Script.{Script}
 use Rattle.fj_script.specs.Script as session
-use Rattle.fj_session.specs.Answer.{IsAnswer, is_later}
+use Rattle.fj_session.specs.Answer.{IsAnswer, is_left}
 use Rattle.fj_session.specs.Asked.{IsScriptOf}
 use Rattle.fj_session.specs.Text.{answer_bytes, fault_line}
 use Rattle.fj_session.specs.declared.types.Answer.{Answer}
@@ -41,9 +41,9 @@ pub record AreAnswered (env : Env) (asked : List Asked) (answered : List (Asked 
 abbrev pub pieces_of : Env → List (Asked × Answer) → List (List ℕ)
 pieces_of env answered = map (λ a. answer_bytes env.vars a.0.number a.1) answered
 
--- 3 where an answer is left for later, else 0.
+-- 3 where a question stopped or is left for later, else 0.
 abbrev pub status_of : List (Asked × Answer) → ℕ
-status_of answered = if list_any (λ a. is_later a.1) answered then 3 else 0
+status_of answered = if list_any (λ a. is_left a.1) answered then 3 else 0
 
 -- The pieces, one after the other.
 abbrev pub together : List (List ℕ) → List ℕ

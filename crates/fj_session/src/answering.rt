@@ -1,30 +1,39 @@
 //! The answers to the questions of a session.
-ghost use Rattle.std.specs.Prelude.{◌≡◌, ◌≤◌, ◌^◌, All, Contains, IfOk, length, map};
-ghost use Rattle.fj_coeff.specs.Field.{primes};
+ghost use Rattle.std.specs.Prelude.{◌≡◌, IfErr, IfOk, length, if◌then◌else◌};
 ghost use Rattle.fj_coeff.specs.PrimeField.{prime_field};
-ghost use Rattle.fj_theory.specs.Exponents.{total};
-ghost use Rattle.fj_theory.specs.Plain.{HasRanksBelow, polynomial};
-ghost use Rattle.fj_theory.specs.Polynomial.{terms_falling};
-ghost use Rattle.fj_root.specs.Part.{parts_of};
-ghost use Rattle.fj_script.specs.declared.value.Value.TheVariants as values;
-ghost use Rattle.fj_session.specs.Answer.{AnswerUsesFirst, AreParts, AreRows, IsAnswer, RowUsesFirst, key_of, part_of};
-ghost use Rattle.fj_session.specs.Asked.{AreOfOneSession, IsPartsQuestion, IsPoly};
+ghost use Rattle.fj_session.specs.declared.types.Answer.TheVariants as answers;
+ghost use Rattle.fj_session.specs.Answer.{AnswerUsesFirst, IsAnswer, IsAnswerOver};
+ghost use Rattle.fj_session.specs.Asked.{AreOfOneSession};
+ghost use Rattle.fj_session.specs.Outcome.{IsPrintStop, IsShown, IsStopFor};
 
-use super::types::{Answer, PartList, PartRow};
+use super::named::polynomial_at;
+use super::ideals::{are_same, declared, frobenius_power, is_member, product, root, sum};
+use super::part_rows::part_rows;
+use super::shown::shown_basis;
+use super::types::Answer;
+use fj_basis::Stop;
 use fj_coeff::{Coeff, Fp};
-use fj_mono::{Elim, Grevlex, Grlex, Lex, Order};
-use fj_plain::{OrderName, PlainPoly};
-use fj_poly::Poly;
-use fj_root::{Part, parts};
-use fj_script::{Asked, Env, Question, Value};
+use fj_ideal::Ideal;
+use fj_script::{Asked, Env, Question};
 use std::alloc::{AllocError, Global};
 
 /// The answer to a question of a session, over the prime field GF(p) of its ring.
 ///
-/// `parts e F` asks for the parts of the polynomial F at e, 0 to 12: the polynomials h_a with F = sum over a of
-/// h_a^q * x^a, a over the exponent lists with entries below q = p^e (Blickle, Mustață and Smith 2008). Those that aren't
-/// zero are answered, their residues a rising in Lex and their terms falling in the printing order of the question. Other
-/// questions are left for later. Nothing past the variables of the ring occurs in the answer.
+/// - `parts e F`: the polynomials h_a with F = sum over a of h_a^q * x^a, a over the exponent lists with entries below
+///   q = p^e (Blickle, Mustață and Smith 2008). Those that aren't zero are answered, their residues a rising in Lex and their
+///   terms falling in the printing order of the question.
+/// - `basis J`, `sum J K`, `product J K`, `power e J`, `root e J`: J, the sum, the product, the Frobenius power and the
+///   Frobenius root, by their reduced bases for the printing order, the terms of each member falling in it.
+/// - `member F J`, `same J K`: whether F is in J, whether J and K are one ideal.
+/// - Other questions are left for later.
+///
+/// The question stops only where a run on one of its lists, which is kept with its order, makes all turns of the question's
+/// budget and leaves pairs pending (`StoppedPairs`), or comes to a sugar above 2^40, or where a product of it has a term of a
+/// total degree above 2^40 (`StoppedHigh`; of a product its polynomials are kept). The lists are those that the question
+/// names, then the one of its ideal, made of reduced Grevlex bases, and last, where the printing order isn't Grevlex, the
+/// reduced Grevlex basis of the ideal that is printed.
+///
+/// Nothing past the variables of the ring occurs in an answer that doesn't stop.
 ///
 /// Condition: both are from one accepted session.
 pub fn answer(alloc: Global, env: &Env, asked: &Asked) -> Result<Answer, AllocError>
@@ -32,115 +41,88 @@ pub fn answer(alloc: Global, env: &Env, asked: &Asked) -> Result<Answer, AllocEr
     ensures answer { IfOk result (IsAnswer env.now asked.now) }
     ensures variables { IfOk result (AnswerUsesFirst (length env.now.vars)) }
 {
+    prime_answer(alloc, env, asked)
+}
+
+/// The answer over GF(p).
+fn prime_answer(alloc: Global, env: &Env, asked: &Asked) -> Result<Answer, AllocError>
+    requires { AreOfOneSession env.now asked.now }
+    ensures { IfOk result (IsAnswer env.now asked.now) }
+{
+    let p = env.p;
+    if p == 2 {
+        field_answer::<Fp<2>>(alloc, env, asked)
+    } else if p == 3 {
+        field_answer::<Fp<3>>(alloc, env, asked)
+    } else if p == 5 {
+        field_answer::<Fp<5>>(alloc, env, asked)
+    } else if p == 7 {
+        field_answer::<Fp<7>>(alloc, env, asked)
+    } else if p == 11 {
+        field_answer::<Fp<11>>(alloc, env, asked)
+    } else {
+        field_answer::<Fp<13>>(alloc, env, asked)
+    }
+}
+
+/// The answer over a field, or that it stops.
+fn field_answer<K: Coeff>(alloc: Global, env: &Env, asked: &Asked) -> Result<Answer, AllocError>
+    requires session { AreOfOneSession env.now asked.now }
+    requires field { K.field ≡ prime_field env.now.p }
+    ensures { IfOk result (IsAnswerOver K.field env.now asked.now) }
+{
+    match found::<K>(alloc, env, asked) {
+        Ok(answer) => Ok(answer),
+        Err(Stop::Pairs(kept)) => Ok(Answer::StoppedPairs(kept)),
+        Err(Stop::High(kept)) => Ok(Answer::StoppedHigh(kept)),
+        Err(Stop::Product(kept)) => Ok(Answer::StoppedHigh(kept)),
+        Err(Stop::Memory) => Err(AllocError),
+    }
+}
+
+/// The answer over a field, or why it stops.
+fn found<K: Coeff>(alloc: Global, env: &Env, asked: &Asked) -> Result<Answer, Stop>
+    requires session { AreOfOneSession env.now asked.now }
+    requires field { K.field ≡ prime_field env.now.p }
+    ensures answer { IfOk result (IsAnswerOver K.field env.now asked.now) }
+    ensures stop { IfErr result (IsStopFor K.field env.now asked.now) }
+{
+    let budget = asked.budget;
     match asked.question {
-        Question::Parts { e, f } => Ok(Answer::Parts(named_parts(alloc, env, asked.order, e, f)?)),
+        Question::Parts { e, f } => {
+            let f = polynomial_at(env, f);
+            Ok(Answer::Parts(part_rows::<K>(alloc, asked.order, e, f)?))
+        }
+        Question::Basis { j } => {
+            let ideal = declared::<K>(alloc, env, budget, j)?;
+            shown(alloc, asked, &ideal)
+        }
+        Question::Member { f, j } => Ok(verdict(is_member::<K>(alloc, env, budget, f, j)?)),
+        Question::Same { j, k } => Ok(verdict(are_same::<K>(alloc, env, budget, j, k)?)),
+        Question::Sum { j, k } => shown(alloc, asked, &sum::<K>(alloc, env, budget, j, k)?),
+        Question::Product { j, k } => {
+            shown(alloc, asked, &product::<K>(alloc, env, budget, j, k)?)
+        }
+        Question::Power { e, j } => {
+            shown(alloc, asked, &frobenius_power::<K>(alloc, env, budget, e, j)?)
+        }
+        Question::Root { e, j } => shown(alloc, asked, &root::<K>(alloc, env, budget, e, j)?),
         _ => Ok(Answer::Later),
     }
 }
 
-/// The parts at e of the polynomial whose name has this place.
-fn named_parts(
-    alloc: Global,
-    env: &Env,
-    order: OrderName,
-    e: u32,
-    place: u32,
-) -> Result<PartList, AllocError>
-    requires { IsPartsQuestion env.now e place }
-    ensures parts { IfOk result (AreParts env.now order e place) }
-    ensures variables { IfOk result (All (RowUsesFirst (length env.now.vars))) }
+/// The answer that an ideal is, for the printing order of the question.
+fn shown<K: Coeff>(alloc: Global, asked: &Asked, ideal: &Ideal<K>) -> Result<Answer, Stop>
+    ensures answer { IfOk result (IsShown K.field asked.now.order ideal.now.given) }
+    ensures stop { IfErr result (IsPrintStop K.field asked.now.order ideal.now.members asked.now.budget) }
 {
-    let (_, value) = env.values.get(place as usize);
-    prime_parts(alloc, env.p, order, e, polynomial_of(value))
+    let list = shown_basis(alloc, ideal, asked.order, asked.budget)?;
+    Ok(Answer::Ideal(list))
 }
 
-/// The polynomial that a name stands for.
-fn polynomial_of(value: &Value) -> &PlainPoly
-    requires { IsPoly value.now }
-    ensures { value.now ≡ values.Poly result.now }
+/// The answer yes, or no.
+fn verdict(holds: bool) -> Answer
+    ensures { result ≡ (if holds then answers.Yes else answers.No) }
 {
-    match value {
-        Value::Poly(f) => f,
-        Value::Ideal(_) => unreachable!(),
-        Value::Point(_) => unreachable!(),
-    }
-}
-
-/// The parts over GF(p).
-fn prime_parts(
-    alloc: Global,
-    p: u64,
-    order: OrderName,
-    e: u32,
-    f: &PlainPoly,
-) -> Result<PartList, AllocError>
-    requires prime { Contains primes p }
-    requires small { e ≤ 12 }
-    requires ranks { HasRanksBelow p f.now }
-    requires totals { All (λ t. total t.0 ≤ 2 ^ 40) f.now.terms }
-    ensures { IfOk result (AreRows (prime_field p) (key_of order) e (polynomial f.now)) }
-{
-    if p == 2 {
-        field_parts::<Fp<2>>(alloc, order, e, f)
-    } else if p == 3 {
-        field_parts::<Fp<3>>(alloc, order, e, f)
-    } else if p == 5 {
-        field_parts::<Fp<5>>(alloc, order, e, f)
-    } else if p == 7 {
-        field_parts::<Fp<7>>(alloc, order, e, f)
-    } else if p == 11 {
-        field_parts::<Fp<11>>(alloc, order, e, f)
-    } else {
-        field_parts::<Fp<13>>(alloc, order, e, f)
-    }
-}
-
-/// The parts over a field, their terms falling in the order with this name.
-fn field_parts<K: Coeff>(
-    alloc: Global,
-    order: OrderName,
-    e: u32,
-    f: &PlainPoly,
-) -> Result<PartList, AllocError>
-    requires small { e ≤ 12 }
-    requires ranks { HasRanksBelow K.field.size f.now }
-    requires totals { All (λ t. total t.0 ≤ 2 ^ 40) f.now.terms }
-    ensures { IfOk result (AreRows K.field (key_of order) e (polynomial f.now)) }
-{
-    match order {
-        OrderName::Lex => ordered_parts::<K, Lex>(alloc, e, f),
-        OrderName::Grlex => ordered_parts::<K, Grlex>(alloc, e, f),
-        OrderName::Grevlex => ordered_parts::<K, Grevlex>(alloc, e, f),
-        OrderName::Elim => ordered_parts::<K, Elim>(alloc, e, f),
-    }
-}
-
-/// The parts over a field, their terms falling in an order.
-fn ordered_parts<K: Coeff, O: Order>(
-    alloc: Global,
-    e: u32,
-    f: &PlainPoly,
-) -> Result<PartList, AllocError>
-    requires small { e ≤ 12 }
-    requires ranks { HasRanksBelow K.field.size f.now }
-    requires totals { All (λ t. total t.0 ≤ 2 ^ 40) f.now.terms }
-    ensures { IfOk result (AreRows K.field O.key e (polynomial f.now)) }
-{
-    let poly = Poly::<K, O>::from_plain(alloc, f)?;
-    rows(alloc, &parts(alloc, e, &poly)?)
-}
-
-/// The rows of parts.
-fn rows<K: Coeff, O: Order>(alloc: Global, parts: &[Part<K, O>]) -> Result<PartList, AllocError>
-    ensures parts { IfOk result (λ rows. map part_of rows ≡ parts_of parts.now) }
-    ensures falling { IfOk result (All (λ row. row.poly.terms ≡ terms_falling O.key (polynomial row.poly))) }
-{
-    let mut rows = Vec::with_capacity(alloc, parts.len())?;
-    for part in parts {
-        rows.push(PartRow {
-            residue: part.residue,
-            poly: part.poly.to_plain(alloc)?,
-        })?;
-    }
-    Ok(PartList::of(rows))
+    if holds { Answer::Yes } else { Answer::No }
 }

@@ -2,9 +2,13 @@
 #![tactic(auto)]
 
 mod answering;
+mod ideals;
 mod input;
+mod named;
+mod part_rows;
 mod printing;
 mod program;
+mod shown;
 pub mod types;
 
 pub use answering::answer;

@@ -1,19 +1,24 @@
 //! The printed texts of answers and faults.
 ghost use Rattle.std.specs.Prelude.{ℕ, ◌≡◌, ◌==◌, ◌≤◌, [], ◌++◌, All, length, map, take, codes, decimal, IfOk, OnOk, if◌then◌else◌};
+ghost use Rattle.fj_theory.specs.Plain.{polynomial};
+ghost use Rattle.fj_theory.specs.PointIdeal.{UsesFirst};
+ghost use Rattle.fj_text.specs.Printed.{list_bytes};
 ghost use Rattle.fj_session.specs.Answer.{AnswerUsesFirst, RowUsesFirst};
 ghost use Rattle.fj_session.specs.Text.{answer_bytes, fault_line, kind_bytes, residue_bytes, row_line, rows_bytes};
 
 use super::types::{Answer, PartList, PartRow};
 use fj_mono::Mono;
+use fj_plain::PlainList;
 use fj_script::{Fault, FaultKind};
-use fj_text::{Names, print_poly};
+use fj_text::{Names, print_list, print_poly};
 use itoa::Buffer;
 use std::alloc::{AllocError, Global};
 
 /// The text of the answer to the question with this number. The variables have these names.
 ///
 /// Each part has a line `k: part (a1,..,an) = h`, with the n exponents of its residue; where there is none, the line is
-/// `k: none`. An answer that is left for later has the line `k: later`.
+/// `k: none`. An ideal has the line `k: (g1, g2, ..)`, or `k: (0)` where its basis is empty. The others have the lines
+/// `k: yes`, `k: no`, `k: stopped pairs`, `k: stopped high` and `k: later`.
 ///
 /// Condition: nothing past the names occurs.
 pub fn print_answer(
@@ -28,6 +33,11 @@ pub fn print_answer(
     let mut out = Vec::new(alloc);
     match a {
         Answer::Parts(rows) => push_rows(alloc, &mut out, vars, number, rows)?,
+        Answer::Ideal(list) => push_ideal(alloc, &mut out, vars, number, list)?,
+        Answer::Yes => push_word(&mut out, number, b": yes\n")?,
+        Answer::No => push_word(&mut out, number, b": no\n")?,
+        Answer::StoppedPairs(_) => push_word(&mut out, number, b": stopped pairs\n")?,
+        Answer::StoppedHigh(_) => push_word(&mut out, number, b": stopped high\n")?,
         Answer::Later => push_word(&mut out, number, b": later\n")?,
     }
     Ok(out)
@@ -89,6 +99,23 @@ fn push_rows(
     for place in 0..rows.len() {
         push_row(alloc, out, vars, number, rows.get(place))?;
     }
+    Ok(())
+}
+
+/// Appends the line of an ideal, for the question with this number.
+fn push_ideal(
+    alloc: Global,
+    out: &mut Vec<u8>,
+    vars: &Names,
+    number: u32,
+    list: &PlainList,
+) -> Result<(), AllocError>
+    requires { All (λ h. UsesFirst (length vars.now) (polynomial h)) list.now }
+    ensures { OnOk result (out.new.items ≡ out.old.items ++ (decimal number ++ codes ": " ++ list_bytes vars.now list.now ++ codes "\n")) }
+{
+    push_word(out, number, b": ")?;
+    out.extend_from_slice(&print_list(alloc, list, vars)?)?;
+    out.push(b'\n')?;
     Ok(())
 }
 

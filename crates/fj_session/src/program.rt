@@ -3,7 +3,7 @@ ghost use Rattle.std.specs.Prelude.{◌≡◌, ◌≢◌, ◌≤◌, ◌<◌, �
 ghost use Rattle.std.specs.Io.KnownBytes.{Appends};
 ghost use Rattle.fj_io.specs.Outside.{AppendsFront, Rose};
 ghost use Rattle.fj_script.specs.declared.question.Asked as question;
-ghost use Rattle.fj_session.specs.Answer.{IsAnswer, is_later};
+ghost use Rattle.fj_session.specs.Answer.{IsAnswer, is_left};
 ghost use Rattle.fj_session.specs.Asked.{AreOfOneSession, IsScriptOf};
 ghost use Rattle.fj_session.specs.Program.{AppendsCut, AreAnswered, AreFirstOfRun, AreRun, IsRun, pieces_of, status_of, texts_of, together};
 ghost use Rattle.fj_session.specs.Text.{answer_bytes, fault_line};
@@ -30,8 +30,8 @@ const USAGE: u8 = 1;
 /// The line of a fault was written.
 const FAULT: u8 = 2;
 
-/// Some questions are left for later.
-const LATER: u8 = 3;
+/// Some questions stopped, or are left for later.
+const LEFT: u8 = 3;
 
 /// A read failed.
 const READ_FAILED: u8 = 4;
@@ -72,7 +72,7 @@ fn are_run(words: &[&str]) -> bool
     words.len() == 1 && words[0] == "run"
 }
 
-/// Answers a question, hands its text to the sink, and tells whether it is left for later.
+/// Answers a question, hands its text to the sink, and tells whether it stopped or is left for later.
 fn answer_one<K: Sink>(
     alloc: Global,
     env: &Env,
@@ -80,7 +80,7 @@ fn answer_one<K: Sink>(
     sink: &mut K,
 ) -> Result<bool, Unwritten>
     requires { AreOfOneSession env.now asked.now }
-    ensures answered { IfOk result (λ later. (a : types.Answer) × IsAnswer env.now asked.now a × (later ≡ is_later a)
+    ensures answered { IfOk result (λ left. (a : types.Answer) × IsAnswer env.now asked.now a × (left ≡ is_left a)
         × Appends (K.taken sink.old) (K.taken sink.new) (answer_bytes env.now.vars asked.now.number a)) }
     ensures failed { IsErrOf result Unwritten.WriteFailed → Rose (K.faults sink.old) (K.faults sink.new)
         × ((a : types.Answer) × IsAnswer env.now asked.now a
@@ -91,14 +91,24 @@ fn answer_one<K: Sink>(
     let answer = answer(alloc, env, asked)?;
     let text = print_answer(alloc, &env.vars, asked.number, &answer)?;
     sink.write_all(&text)?;
-    Ok(matches!(answer, Answer::Later))
+    Ok(is_left(&answer))
+}
+
+/// Whether a question stopped or is left for later.
+fn is_left(answer: &Answer) -> bool
+    ensures { result ≡ is_left answer.now }
+{
+    matches!(
+        answer,
+        Answer::StoppedPairs(_) | Answer::StoppedHigh(_) | Answer::Later
+    )
 }
 
 /// The status after one more answer.
-fn status_after(status: u8, is_later: bool) -> u8
-    ensures { result ≡ (if is_later then 3 else status) }
+fn status_after(status: u8, is_left: bool) -> u8
+    ensures { result ≡ (if is_left then 3 else status) }
 {
-    if is_later { LATER } else { status }
+    if is_left { LEFT } else { status }
 }
 
 /// Answers the questions of a session, hands each text to the sink, and answers the status.
@@ -119,12 +129,12 @@ fn answer_all<K: Sink>(alloc: Global, script: &Script, sink: &mut K) -> u8
 {
     let mut status = ANSWERED;
     for i in 0..script.asked.len() {
-        let is_later = match answer_one(alloc, &script.env, script.asked.get(i), sink) {
-            Ok(is_later) => is_later,
+        let is_left = match answer_one(alloc, &script.env, script.asked.get(i), sink) {
+            Ok(is_left) => is_left,
             Err(Unwritten::WriteFailed) => return WRITE_FAILED,
             Err(Unwritten::NoMemory) => return NO_MEMORY,
         };
-        status = status_after(status, is_later);
+        status = status_after(status, is_left);
     }
     status
 }
@@ -163,7 +173,7 @@ fn write_fault<K: Sink>(alloc: Global, fault: &Fault, sink: &mut K) -> u8
 /// - 0: the session has no fault, all questions were answered, and the answers were written.
 /// - 1: the words aren't `run` alone, and the usage line was written. The source isn't read.
 /// - 2: the session has a fault, and its line was written.
-/// - 3: the session has no fault, some questions are left for later, and the answers were written.
+/// - 3: the session has no fault, some questions stopped or are left for later, and the answers were written.
 /// - 4: a read failed. Nothing was written.
 /// - 5: a write failed. The texts before it and a front of its own were written.
 /// - 6: memory was wanting. The texts of the answers before were written, or nothing.

@@ -2,7 +2,7 @@
 ghost use Rattle.std.specs.Prelude.{◌≡◌, ◌<◌, length, slice_get, Some};
 
 use fj_mono::Mono;
-use fj_plain::PlainPoly;
+use fj_plain::{Kept, PlainList, PlainPoly};
 use std::marker::Model;
 
 /// A part of a polynomial: the exponents of its residue, each below q, and the part, whose terms fall in the printing
@@ -57,6 +57,14 @@ impl PartList {
 pub enum Answer {
     /// The parts of a polynomial at e.
     Parts(PartList),
+    /// An ideal by its reduced basis for the printing order: the members rise by lead, and the terms of each fall.
+    Ideal(PlainList),
+    Yes,
+    No,
+    /// The run on this list, which the question needs, made as many turns as its budget allows, and pairs are pending.
+    StoppedPairs(Kept),
+    /// A degree above 2^40 arises in the run on this list, which the question needs, or in a product of these polynomials.
+    StoppedHigh(Kept),
     /// Questions of this kind are left for later.
     Later,
 }

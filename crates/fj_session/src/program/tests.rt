@@ -157,6 +157,70 @@ fn answers_sessions(rt: HostRuntime) -> Result<(), Fail> {
     Ok(())
 }
 
+// What is asked of ideals, in each printing order, and what stops.
+#[test]
+fn answers_questions_on_ideals(rt: HostRuntime) -> Result<(), Fail> {
+    let alloc = rt.alloc();
+    let rows: [(&[u8], u8, &[u8]); 9] = [
+        (
+            b"ring 5 x, y\nideal J = (x^2, x*y)\nideal K = (x)\npoly h = x^2*y\nideal L = (x*y, x^2+x*y)\nask sum J K\nask product J K\nask same J L\nask same J K\nask member h J\n",
+            0,
+            b"1: (x)\n2: (x^2*y, x^3)\n3: yes\n4: no\n5: yes\n",
+        ),
+        (
+            b"ring 2 x, y\nideal J = (x^2+y, x*y+1)\nbudget 1\nask basis J\nbudget 3\nask basis J\norder lex\nbudget 100\nask basis J\n",
+            3,
+            b"1: stopped pairs\n2: (y^2+x, x*y+1, x^2+y)\n3: (y^3+1, x+y^2)\n",
+        ),
+        (
+            b"ring 2 x, y, z\nideal J = (x*z+y^2)\nask basis J\norder grlex\nask basis J\n",
+            0,
+            b"1: (y^2+x*z)\n2: (x*z+y^2)\n",
+        ),
+        (
+            b"ring 13 x\nideal J = (x^1000)\nask power 8 J\nask power 9 J\n",
+            3,
+            b"1: (x^815730721000)\n2: stopped high\n",
+        ),
+        // Every least common multiple of two leads is above 2^40, and the pairs are dropped.
+        (
+            b"ring 13 x, y, z\nideal J = (x^1000, y^1000, z^1000)\nask power 8 J\n",
+            0,
+            b"1: (z^815730721000, y^815730721000, x^815730721000)\n",
+        ),
+        (
+            b"ring 2 x, y\nideal J = (x^3, x*y^2)\nask root 1 J\nask root 0 J\nask power 1 J\n",
+            0,
+            b"1: (y, x)\n2: (x*y^2, x^3)\n3: (x^2*y^4, x^6)\n",
+        ),
+        // The zero ideal and the unit ideal.
+        (
+            b"ring 3 x\nideal Z = (0)\nideal U = (2)\npoly f = x\nask basis Z\nask basis U\nask member f Z\nask member f U\nask root 1 Z\nask product Z U\nask sum Z U\nask same Z U\n",
+            0,
+            b"1: (0)\n2: (1)\n3: no\n4: yes\n5: (0)\n6: (0)\n7: (1)\n8: no\n",
+        ),
+        // An ideal with itself.
+        (
+            b"ring 7 x, y\nideal J = (x, y)\nask same J J\nask sum J J\nask product J J\n",
+            0,
+            b"1: yes\n2: (y, x)\n3: (y^2, x*y, x^2)\n",
+        ),
+        // A stop leaves the other answers as they are.
+        (
+            b"ring 2 x, y\nideal J = (x^2+y, x*y+1)\npoly f = x\nbudget 1\nask member f J\nask parts 0 f\n",
+            3,
+            b"1: stopped pairs\n2: part (0,0) = x\n",
+        ),
+    ];
+    for (session, status, output) in rows {
+        let mut source = MemorySource::new(alloc, session, 1000, &[])?;
+        let mut sink = MemorySink::new(alloc, 1000, &[])?;
+        assert_eq!(rt; run(alloc, GO, &mut source, &mut sink), status);
+        assert_eq!(rt; sink.taken(), output);
+    }
+    Ok(())
+}
+
 #[test]
 fn tells_the_first_fault(rt: HostRuntime) -> Result<(), Fail> {
     let alloc = rt.alloc();

@@ -1,4 +1,3 @@
-use Rattle.std.proofs.Common.{◌≡◌, length}
 use Rattle.fj_theory.proofs.Turns.{IsFinished-TooHigh, IsFinished-Unfinished, Unfinished-TooHigh}
 use Rattle.fj_basis.proofs.MadeRows.{AreRows-long}
 use Rattle.fj_basis.proofs.calculation.basis.Goals as goal

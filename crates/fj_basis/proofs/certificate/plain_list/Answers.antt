@@ -1,4 +1,4 @@
-use Rattle.std.proofs.Common.{◌≡◌, ◌≤◌, length, take, subst, sym, All}
+use Rattle.std.proofs.Common.{subst, sym, All}
 use Rattle.fj_theory.specs.Plain.{polynomial, HasRanksBelow}
 use Rattle.fj_basis.proofs.Gathered.{gathered_views, gathered_all}
 use Rattle.fj_basis.proofs.certificate.plain_list.Goals as goal

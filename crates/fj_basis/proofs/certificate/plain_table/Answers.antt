@@ -1,4 +1,4 @@
-use Rattle.std.proofs.Common.{◌≡◌, ◌≤◌, length, map, take, subst, sym, All, ◌∙◌}
+use Rattle.std.proofs.Common.{map, subst, sym, All, ◌∙◌}
 use Rattle.fj_theory.specs.Plain.{polynomial}
 use Rattle.fj_theory.specs.Certificate.{AllRanksBelow}
 use Rattle.fj_basis.proofs.Gathered.{gathered, gathered_all}

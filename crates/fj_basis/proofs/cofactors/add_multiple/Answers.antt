@@ -1,8 +1,8 @@
-use Rattle.std.proofs.Common.{◌≡◌, ◌<◌, ◌≤◌, length, get_or, refl, sym, ap, ◌∙◌, arith}
+use Rattle.std.proofs.Common.{◌<◌, ◌≤◌, length, get_or, sym, ap, ◌∙◌, arith}
 use Rattle.std.specs.FinMap.{empty}
 use Rattle.std.proofs.lemmas.List.{get_or_default}
 use Rattle.fj_theory.specs.Polynomial.{sum, product}
-use Rattle.fj_basis.proofs.Rows.{added, added-none, added-all, added-more, added-zero}
+use Rattle.fj_basis.proofs.Rows.{added-none, added-all, added-more, added-zero}
 use Rattle.fj_basis.proofs.cofactors.add_multiple.Goals as goal
 use Rattle.fj_basis.proofs.cofactors.add_multiple.Goals.{then-not-is_zero+in_ok-mul+in_ok-row, else-not-is_zero}
 

@@ -1,4 +1,3 @@
-use Rattle.std.proofs.Common.{◌≡◌, take}
 use Rattle.fj_theory.specs.Exponents.{origin}
 use Rattle.fj_theory.specs.Polynomial.{product, term}
 use Rattle.fj_basis.proofs.Gathered.{gathered_values}

@@ -1,17 +1,13 @@
-use Rattle.std.proofs.Common.{◌≡◌, ◌<◌, ◌≤◌, ◌+◌, List, [], length, map, get_or, All, refl, sym, ap, ap₂, ◌∙◌, subst, arith}
-use Rattle.std.specs.FinMap.{empty}
-use Rattle.std.proofs.lemmas.List.{get_or_default, get_or-map, length-map}
-use Rattle.std.proofs.lemmas.List.Elements.{All-weaker}
-use Rattle.fj_theory.specs.Exponents.{origin, total}
+use Rattle.std.proofs.Common.{◌≡◌, ◌<◌, [], length, map, get_or, All, sym, ap, ap₂, ◌∙◌, subst, arith}
+use Rattle.std.proofs.lemmas.List.{get_or-map, length-map}
+use Rattle.fj_theory.specs.Exponents.{origin}
 use Rattle.fj_theory.specs.Ideal.{ArePolynomials}
-use Rattle.fj_theory.specs.Polynomial.{IsPolynomial, coefficient, negation, product, term}
+use Rattle.fj_theory.specs.Polynomial.{negation, product, term}
 use Rattle.fj_theory.specs.Rows.{add_multiple}
-use Rattle.fj_theory.specs.Division.{DegreeAtMost, degree_limit, member_at}
 use Rattle.fj_theory.proofs.PolynomialRing.{IsPolynomial-negation}
 use Rattle.fj_poly.specs.Limit.{IsHigh}
-use Rattle.fj_basis.specs.Members.{IsRowWithin, sugared, sugared_members}
-use Rattle.fj_basis.specs.Quotients.{AreQuotientsWithin}
-use Rattle.fj_basis.proofs.Rows.{add_multiples-none, ArePolynomials-add_multiple, scale-negation, product-low, negation-positive, subtracted-more, subtracted-zero}
+use Rattle.fj_basis.specs.Members.{sugared}
+use Rattle.fj_basis.proofs.Rows.{add_multiples-none, ArePolynomials-add_multiple, scale-negation, product-low, subtracted-more, subtracted-zero}
 use Rattle.fj_basis.proofs.Subtracted.{quotient_low}
 use Rattle.fj_basis.proofs.cofactors.subtract_multiples.Goals as goal
 use Rattle.fj_basis.proofs.cofactors.subtract_multiples.Goals.{then-not-is_zero+in_ok-factor+in_ok-add_multiple, else-not-is_zero}

@@ -1,4 +1,4 @@
-use Rattle.std.proofs.Common.{◌≡◌, ◌≢◌, ◌≤◌, ◌<◌, ℕ, List, map, length, All, ap, ap₂, ◌∙◌, sym, subst, subst₂, arith}
+use Rattle.std.proofs.Common.{◌≡◌, ◌≢◌, ℕ, map, length, All, ap, ap₂, ◌∙◌, sym, subst, arith}
 use Rattle.std.specs.FinMap.{empty}
 use Rattle.std.proofs.lemmas.Result.{err_from_is_err_and}
 use Rattle.std.proofs.lemmas.List.{length-map}
@@ -6,7 +6,7 @@ use Rattle.std.proofs.lemmas.List.Elements.{All-map, All-weaker}
 use Rattle.fj_theory.specs.Ideal.{ArePolynomials, list_combination}
 use Rattle.fj_theory.specs.Polynomial.{Polynomial, IsPolynomial, sum}
 use Rattle.fj_theory.specs.Run.{given}
-use Rattle.fj_theory.specs.Division.{Sugared, AreWithinSugars, DegreeAtMost, IsHighDivision, IsLowDivision, degree_limit, polynomials_of}
+use Rattle.fj_theory.specs.Division.{DegreeAtMost, IsHighDivision, IsLowDivision}
 use Rattle.fj_theory.proofs.DegreeOrder.{polynomials_of-given, IsHighDivision-degree}
 use Rattle.fj_theory.proofs.Division.{IsLowDivision-IsHighDivision, division_identity, IsDivision-length}
 use Rattle.fj_theory.proofs.Sugar.{given-DegreeAtMost}

@@ -1,11 +1,10 @@
-use Rattle.std.proofs.Common.{◌≡◌, ◌<◌, ◌≤◌, ℕ, List, map, ap, ◌∙◌, sym, subst, arith, ⊎_elim, refl}
+use Rattle.std.proofs.Common.{◌<◌, List, map, ◌∙◌, sym, subst, ⊎_elim}
 use Rattle.std.proofs.lemmas.Bool.{cases_lt}
-use Rattle.std.proofs.lemmas.List.{length-map}
 use Rattle.std.proofs.lemmas.Result.{err_from_is_err_and}
-use Rattle.fj_theory.specs.Division.{Sugared, Division, division_start, degree_limit, IsDivisionStep}
+use Rattle.fj_theory.specs.Division.{Sugared, degree_limit}
 use Rattle.fj_theory.proofs.Division.{IsLowDivision-IsHighDivision}
 use Rattle.fj_basis.proofs.Faults.{handed_on}
-use Rattle.fj_basis.proofs.Reached.{start-is, Reached-start, Reached-step, Reached-end, Reached-high, Reached-falls, after, after-step, after-sugar, next-sugar}
+use Rattle.fj_basis.proofs.Reached.{start-is, Reached-start, Reached-step, Reached-end, Reached-high, Reached-falls, after-step, after-sugar, next-sugar}
 use Rattle.fj_basis.proofs.division.divide_sugared.Goals as goal
 
 pub loop-c-init : goal.loop-c-init

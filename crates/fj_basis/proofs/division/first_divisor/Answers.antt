@@ -1,9 +1,8 @@
-use Rattle.std.proofs.Common.{◌≡◌, ◌≢◌, ◌+◌, ◌<◌, ◌≤◌, length, map, get_or, true, false, refl, ap, ap₂, ◌∙◌, sym, subst, arith}
+use Rattle.std.proofs.Common.{◌≡◌, ◌≢◌, ◌<◌, length, map, get_or, ap, ◌∙◌, sym, arith}
 use Rattle.std.specs.FinMap.{empty}
 use Rattle.std.proofs.lemmas.List.{length-map, get_or-map}
 use Rattle.fj_theory.specs.Exponents.{divides}
 use Rattle.fj_theory.specs.Lead.{lead_exponents}
-use Rattle.fj_theory.specs.Division.{Sugared}
 use Rattle.fj_basis.proofs.DivisionState.{lead-parts, lead-some, some_from_map}
 use Rattle.fj_basis.proofs.FirstDivisor.{passed-start, passed-more, passed-found, passed-all}
 use Rattle.fj_basis.proofs.division.first_divisor.Goals as goal

@@ -1,7 +1,6 @@
-use Rattle.std.proofs.Common.{◌≡◌, sym, subst}
+use Rattle.std.proofs.Common.{sym, subst}
 use Rattle.std.proofs.lemmas.Result.{err_from_is_err_and}
 use Rattle.fj_theory.specs.Division.{DegreeAtMost, IsHighDivision, IsLowDivision}
-use Rattle.fj_theory.specs.Run.{given}
 use Rattle.fj_theory.proofs.Sugar.{given-DegreeAtMost}
 use Rattle.fj_basis.specs.Members.{sugared_members}
 use Rattle.fj_basis.proofs.HighOnly.{handed_only}

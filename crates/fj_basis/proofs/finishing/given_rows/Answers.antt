@@ -1,11 +1,9 @@
-use Rattle.std.proofs.Common.{◌≡◌, ◌<◌, ◌≤◌, ◌∷◌, ◌++◌, List, [], length, map, take, get_or, Any, sym, ap, ◌∙◌, subst, subst₂, arith, add-one}
+use Rattle.std.proofs.Common.{◌∷◌, ◌++◌, [], map, take, sym, ap, ◌∙◌, subst, subst₂, arith, add-one}
 use Rattle.std.proofs.Math.Seq.{take-suc}
 use Rattle.std.proofs.lemmas.List.{map-append, take_all}
 use Rattle.std.proofs.lemmas.Result.{err_from_is_err_and}
-use Rattle.fj_theory.specs.Division.{IsHighDivision}
-use Rattle.fj_theory.specs.Run.{given}
 use Rattle.fj_basis.specs.Members.{sugared_members}
-use Rattle.fj_basis.specs.Finished.{AreQuotients, IsQuotients}
+use Rattle.fj_basis.specs.Finished.{AreQuotients}
 use Rattle.fj_basis.proofs.HighOnly.{only_only}
 use Rattle.fj_basis.proofs.FinishingRows.{AreQuotients-more, AreQuotients-nil}
 use Rattle.fj_basis.proofs.finishing.given_rows.Goals as goal

@@ -1,7 +1,6 @@
-use Rattle.std.proofs.Common.{◌≡◌, ◌<◌, ◌&&◌, ◌||◌, not, nat_lt, length, true, false, refl, sym, ap₂, ◌∙◌, arith, below_more}
+use Rattle.std.proofs.Common.{◌≡◌, ◌&&◌, ◌||◌, not, nat_lt, sym, ap₂, ◌∙◌, arith, below_more}
 use Rattle.std.proofs.lemmas.List.{length-map}
 use Rattle.fj_theory.specs.Exponents.{divides}
-use Rattle.fj_theory.specs.Run.{lead_of, is_left_out}
 use Rattle.fj_basis.specs.Members.{sugared, sugared_members}
 use Rattle.fj_basis.proofs.FinishingActs.{leaves_out, left_out-found, left_out-none}
 use Rattle.fj_basis.proofs.FinishingRows.{lead_at-sugared}

@@ -1,5 +1,4 @@
-use Rattle.std.proofs.Common.{◌≡◌, ◌∷◌, ◌++◌, [], map, ap₂, sym, ◌∙◌}
-use Rattle.std.specs.List.{range_with_len}
+use Rattle.std.proofs.Common.{◌∷◌, ◌++◌, [], ap₂, sym, ◌∙◌}
 use Rattle.fj_theory.specs.Run.{is_left_out}
 use Rattle.fj_basis.specs.Members.{sugared_members}
 use Rattle.fj_basis.proofs.FinishingActs.{map-range-more}

@@ -1,4 +1,4 @@
-use Rattle.std.proofs.Common.{◌≡◌, ◌<◌, ◌≤◌, ◌++◌, ◌∷◌, ◌==◌, [], true, false, length, map, take, drop, get_or, All, Contains, Ordering, Less, Equal, Greater, refl, sym, ap, ap₂, ◌∙◌, subst, arith, true≢false}
+use Rattle.std.proofs.Common.{◌≡◌, ◌<◌, ◌++◌, ◌∷◌, ◌==◌, true, false, length, take, drop, get_or, All, Contains, Ordering, Less, Equal, Greater, refl, sym, ap, ap₂, ◌∙◌, subst, arith, true≢false}
 use Rattle.std.specs.Ordering.{ordering_index}
 use Rattle.std.proofs.lemmas.List.{length-map, map-append, take-map, drop-map, get_or-map}
 use Rattle.std.proofs.lemmas.List.Elements.{All-append, All-cons, All-take, All-drop}
@@ -7,7 +7,7 @@ use Rattle.fj_theory.specs.MonomialOrder.{compare_by}
 use Rattle.fj_theory.specs.Lead.{lead_exponents}
 use Rattle.fj_theory.specs.Run.{place_by_lead}
 use Rattle.fj_basis.specs.Members.{sugared, sugared_members}
-use Rattle.fj_basis.proofs.FinishingActs.{IsBehind, IsBehind-more, IsBehind-end, IsBehind-stop}
+use Rattle.fj_basis.proofs.FinishingActs.{IsBehind-more, IsBehind-end, IsBehind-stop}
 use Rattle.fj_basis.proofs.finishing.place_by_lead.Goals as goal
 use Rattle.fj_basis.proofs.finishing.place_by_lead.Goals.{then-loop-place-test+else-eq, else-loop-place-test}
 

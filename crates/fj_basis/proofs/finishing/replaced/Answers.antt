@@ -1,11 +1,11 @@
-use Rattle.std.proofs.Common.{◌≡◌, ◌++◌, ◌∷◌, [], List, ℕ, sym, ap, ◌∙◌, subst, subst₂}
+use Rattle.std.proofs.Common.{◌≡◌, ◌++◌, ◌∷◌, [], List, ℕ, sym, subst, subst₂}
 use Rattle.std.proofs.lemmas.Result.{err_from_is_err_and}
 use Rattle.fj_coeff.specs.Field.{Field, IsField}
 use Rattle.fj_theory.specs.MonomialOrder.{IsMonomialOrder}
 use Rattle.fj_theory.specs.Division.{IsHighDivision}
 use Rattle.fj_basis.specs.declared.members.Member.{Member}
 use Rattle.fj_basis.specs.Finished.{AreMembersOfRun, IsHighReplacing, IsReplacementOf}
-use Rattle.fj_basis.specs.Members.{IsTraced, sugared, sugared_members}
+use Rattle.fj_basis.specs.Members.{sugared, sugared_members}
 use Rattle.fj_basis.proofs.HighOnly.{only_only}
 use Rattle.fj_basis.proofs.Leading.{nonzero_members, state-good}
 use Rattle.fj_basis.proofs.ReplacingSteps.{IsReady, IsReplaced, IsReplaced-IsReady, IsReplaced-more, IsReplaced-start, IsHighReplacing-here}

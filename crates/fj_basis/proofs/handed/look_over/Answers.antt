@@ -1,8 +1,7 @@
-use Rattle.std.proofs.Common.{◌≡◌, ◌<◌, ◌≤◌, ℕ, length, get_or, below_more, sym, ap, ◌∙◌, subst, arith}
+use Rattle.std.proofs.Common.{get_or, below_more, ◌∙◌, subst, arith}
 use Rattle.std.specs.FinMap.{empty}
 use Rattle.std.proofs.lemmas.List.{get_or_default}
-use Rattle.fj_theory.specs.Polynomial.{Polynomial, IsPolynomial}
-use Rattle.fj_theory.specs.Ideal.{ArePolynomials}
+use Rattle.fj_theory.specs.Polynomial.{IsPolynomial}
 use Rattle.fj_basis.proofs.handed.look_over.Goals as goal
 
 pub loop-f-preserved : goal.loop-f-preserved

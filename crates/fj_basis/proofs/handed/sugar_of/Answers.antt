@@ -1,4 +1,4 @@
-use Rattle.std.proofs.Common.{◌≡◌, ◌≤◌, ◌^◌, ℕ, Option, Some, None, unwrap_or, refl, ap, ◌∙◌, sym, arith}
+use Rattle.std.proofs.Common.{◌≡◌, ◌≤◌, ℕ, Option, Some, None, unwrap_or, refl, ap, ◌∙◌, arith}
 use Rattle.fj_theory.specs.Polynomial.{Polynomial, degree}
 use Rattle.fj_theory.specs.Run.{given}
 use Rattle.fj_theory.specs.Division.{degree_limit}

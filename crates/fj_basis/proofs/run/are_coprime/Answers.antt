@@ -1,4 +1,4 @@
-use Rattle.std.proofs.Common.{◌≡◌, ◌+◌, ◌<◌, ◌≤◌, ◌||◌, ◌&&◌, ◌==◌, length, drop, get_or, true, false, ap, ap₂, ◌∙◌, sym, subst, arith}
+use Rattle.std.proofs.Common.{◌+◌, ◌<◌, length, drop, get_or, ◌∙◌, sym, arith}
 use Rattle.fj_theory.specs.Run.{are_coprime}
 use Rattle.fj_basis.proofs.Places.{coprime-more, coprime-end, coprime-none, coprime-first, coprime-second}
 use Rattle.fj_basis.proofs.run.are_coprime.Goals as goal

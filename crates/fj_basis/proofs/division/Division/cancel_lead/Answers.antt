@@ -1,12 +1,11 @@
-use Rattle.std.proofs.Common.{◌≡◌, ◌≢◌, ℕ, ◌+◌, ◌<◌, ◌≤◌, max, List, [], Result, Err, Option, Some, None, IsTrue, IsSome, is_some, true, length, get_or, set, All, Greater, refl, ap, ap₂, ◌∙◌, sym, subst, arith}
+use Rattle.std.proofs.Common.{◌≡◌, ℕ, ◌+◌, ◌<◌, ◌≤◌, max, List, [], IsTrue, length, get_or, set, All, Greater, ap, ap₂, ◌∙◌, sym, subst, arith}
 use Rattle.std.specs.FinMap.{empty, len}
-use Rattle.std.specs.Option.{option_map}
 use Rattle.std.proofs.lemmas.Result.{err_from_is_err_and}
 use Rattle.fj_theory.specs.Exponents.{divides, minus, total}
 use Rattle.fj_theory.specs.MonomialOrder.{compare_by}
-use Rattle.fj_theory.specs.Polynomial.{Polynomial, IsPolynomial, lead, sum, product, term, terms_falling}
+use Rattle.fj_theory.specs.Polynomial.{IsPolynomial, lead, sum, product, term, terms_falling}
 use Rattle.fj_theory.specs.Lead.{lead_exponents, lead_coefficient}
-use Rattle.fj_theory.specs.Division.{cancel_lead, degree_limit, Division}
+use Rattle.fj_theory.specs.Division.{cancel_lead}
 use Rattle.std.proofs.lemmas.List.{get_or_default}
 use Rattle.fj_theory.proofs.Field.{zero_below}
 use Rattle.fj_theory.proofs.Lead.{lead_coefficient-nonzero, lead_coefficient-below}
@@ -16,7 +15,6 @@ use Rattle.fj_basis.proofs.Multiples.{quotient_nonzero, product_term-low}
 use Rattle.fj_poly.specs.Limit.{IsHigh}
 use Rattle.fj_poly.specs.declared.poly.Poly.{Poly}
 use Rattle.fj_basis.proofs.Faults.{not_high_at}
-use Rattle.fj_basis.proofs.division.Division.cancel_lead.Given as given
 use Rattle.fj_basis.proofs.division.Division.cancel_lead.Goals as goal
 
 pub unwrap-d-requires : goal.unwrap-d-requires

@@ -1,4 +1,4 @@
-use Rattle.std.proofs.Common.{◌≡◌, ap, ◌∙◌, sym}
+use Rattle.std.proofs.Common.{ap, ◌∙◌, sym}
 use Rattle.fj_basis.proofs.Left.{front-ended}
 use Rattle.fj_basis.proofs.division.Division.into_parts.Goals as goal
 

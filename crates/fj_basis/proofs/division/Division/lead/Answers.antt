@@ -1,5 +1,4 @@
-use Rattle.std.proofs.Common.{◌≡◌, ◌≤◌, length, None, slice_get, ap, ◌∙◌, sym, subst, arith}
-use Rattle.std.specs.FinMap.{len}
+use Rattle.std.proofs.Common.{◌≤◌, length, ap, ◌∙◌, sym, subst, arith}
 use Rattle.std.proofs.lemmas.Option.{slice_get_past}
 use Rattle.fj_theory.specs.Polynomial.{IsPolynomial, lead, terms_falling}
 use Rattle.fj_basis.proofs.Left.{lead-back, IsPolynomial-back}

@@ -1,4 +1,4 @@
-use Rattle.std.proofs.Common.{◌≡◌, ◌≤◌, ap, ap₂, ◌∙◌, sym, subst, arith}
+use Rattle.std.proofs.Common.{ap₂, ◌∙◌, sym, subst, arith}
 use Rattle.fj_theory.specs.Polynomial.{IsPolynomial}
 use Rattle.fj_basis.proofs.DivisionState.{seen, seen-start}
 use Rattle.fj_basis.proofs.division.Division.start.Goals as goal

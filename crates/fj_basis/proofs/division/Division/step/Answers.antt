@@ -1,12 +1,12 @@
-use Rattle.std.proofs.Common.{◌≡◌, ◌≢◌, ℕ, ◌+◌, ◌<◌, ◌≤◌, max, List, length, map, get_or, IsTrue, Some, All, Greater, refl, ap, ap₂, ◌∙◌, sym, subst, subst₂, arith}
+use Rattle.std.proofs.Common.{◌≡◌, ◌<◌, List, length, map, get_or, IsTrue, All, Greater, ap, ◌∙◌, sym, subst, subst₂, arith}
 use Rattle.std.specs.FinMap.{empty}
 use Rattle.std.proofs.lemmas.List.{length-map}
 use Rattle.std.proofs.lemmas.Result.{on_ok_weaker}
-use Rattle.fj_theory.specs.Exponents.{divides, minus, total}
+use Rattle.fj_theory.specs.Exponents.{divides, minus}
 use Rattle.fj_theory.specs.MonomialOrder.{compare_by}
-use Rattle.fj_theory.specs.Polynomial.{IsPolynomial, terms_falling}
+use Rattle.fj_theory.specs.Polynomial.{terms_falling}
 use Rattle.fj_theory.specs.Lead.{lead_exponents}
-use Rattle.fj_theory.specs.Division.{Sugared, DegreeAtMost, cancel_lead, member_at, first_divisor, degree_limit}
+use Rattle.fj_theory.specs.Division.{Sugared, DegreeAtMost, member_at}
 use Rattle.fj_theory.proofs.Division.{first_divisor-Some}
 use Rattle.fj_basis.proofs.DivisionState.{lead-parts, some-lead}
 use Rattle.fj_basis.proofs.DivisionSteps.{within_at, sugared_same, member_at-map, nonzero_list, step_by-cancel, step_by-move, sugar-cancel, sugar-move}

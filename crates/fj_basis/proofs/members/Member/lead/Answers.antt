@@ -1,4 +1,4 @@
-use Rattle.std.proofs.Common.{◌≡◌, sym}
+use Rattle.std.proofs.Common.{sym}
 use Rattle.fj_basis.proofs.DivisionState.{lead-parts, lead-some, some_from_map}
 use Rattle.fj_basis.proofs.members.Member.lead.Goals as goal
 

@@ -1,4 +1,4 @@
-use Rattle.std.proofs.Common.{◌≡◌, sym, subst}
+use Rattle.std.proofs.Common.{sym, subst}
 use Rattle.fj_theory.specs.Exponents.{least_common_multiple}
 use Rattle.fj_basis.specs.Place.{IsWithinLimit}
 use Rattle.fj_basis.proofs.Places.{within_limit}

@@ -1,4 +1,4 @@
-use Rattle.std.proofs.Common.{◌≡◌, ◌∷◌, [], List, ℕ, ap, ap₂, ◌∙◌, sym, nat_cmp}
+use Rattle.std.proofs.Common.{◌∷◌, [], List, ℕ, ap₂, ◌∙◌, sym, nat_cmp}
 use Rattle.std.specs.Cmp.Lexicographic.{slice_cmp}
 use Rattle.std.specs.Ordering.{ordering_then}
 use Rattle.fj_basis.specs.Place.{place, place_by}

@@ -1,4 +1,4 @@
-use Rattle.std.proofs.Common.{◌≡◌, ◌-◌, ap, ap₂, ◌∙◌, sym}
+use Rattle.std.proofs.Common.{◌-◌, ap, ap₂, ◌∙◌, sym}
 use Rattle.fj_theory.specs.Exponents.{total}
 use Rattle.fj_basis.proofs.Leading.{member_is, lead_of-is, nonzero_at}
 use Rattle.fj_basis.proofs.run.Run.above.Goals as goal

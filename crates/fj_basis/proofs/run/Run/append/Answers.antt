@@ -1,13 +1,9 @@
-use Rattle.std.proofs.Common.{◌≡◌, ◌<◌, ◌≤◌, ◌+◌, ◌++◌, ◌∷◌, [], length, get_or, length-append, inl, All, Contains, refl, ap, ap₂, ◌∙◌, sym, subst, arith}
-use Rattle.std.specs.BTreeSet.{insert_key}
-use Rattle.std.specs.Cmp.Lexicographic.{slice_cmp}
-use Rattle.std.specs.Ordering.{on, nat_cmp}
-use Rattle.fj_algebra.proofs.Pairs.{All-from_elements}
+use Rattle.std.proofs.Common.{◌≡◌, ◌<◌, ◌+◌, ◌++◌, ◌∷◌, [], length, get_or, refl, ap₂, ◌∙◌, sym, subst, arith}
 use Rattle.fj_basis.specs.Members.{sugared_members}
 use Rattle.fj_theory.specs.Exponents.{least_common_multiple}
-use Rattle.fj_basis.specs.Place.{place, IsWithinLimit}
-use Rattle.fj_basis.specs.State.{HasPairsUpTo, IsPairOf}
-use Rattle.fj_basis.proofs.Leading.{nonzero_at, pair_of-appended}
+use Rattle.fj_basis.specs.Place.{IsWithinLimit}
+use Rattle.fj_basis.specs.State.{HasPairsUpTo}
+use Rattle.fj_basis.proofs.Leading.{pair_of-appended}
 use Rattle.fj_basis.proofs.PendingSets.{insert-pair, pairs-none}
 use Rattle.fj_basis.proofs.run.Run.append.Goals as goal
 

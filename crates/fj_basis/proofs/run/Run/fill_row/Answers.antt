@@ -1,13 +1,12 @@
-use Rattle.std.proofs.Common.{◌≡◌, ◌<◌, ◌≤◌, ◌+◌, ◌-◌, max, IsTrue, List, length, map, All, refl, ap, ap₂, ◌∙◌, sym, subst, subst₂, arith}
+use Rattle.std.proofs.Common.{◌≡◌, ◌<◌, ◌-◌, IsTrue, length, map, All, refl, ap, ap₂, ◌∙◌, sym, subst, subst₂, arith}
 use Rattle.std.proofs.lemmas.Result.{on_ok_weaker}
 use Rattle.fj_theory.specs.Exponents.{IsExponents, divides, minus, total}
 use Rattle.fj_theory.specs.Ideal.{ArePolynomials}
-use Rattle.fj_theory.specs.Polynomial.{Polynomial, IsPolynomial, term, negation}
-use Rattle.fj_theory.specs.Rows.{add_multiple, add_multiples}
+use Rattle.fj_theory.specs.Polynomial.{IsPolynomial, term, negation}
+use Rattle.fj_theory.specs.Rows.{add_multiples}
 use Rattle.fj_theory.specs.Division.{member_at}
-use Rattle.fj_theory.specs.Run.{lead_of, pair_multiple}
+use Rattle.fj_theory.specs.Run.{lead_of}
 use Rattle.fj_theory.proofs.Exponents.{IsExponents-minus}
-use Rattle.fj_theory.proofs.Field.{one_below}
 use Rattle.fj_theory.proofs.Polynomial.{IsPolynomial-term}
 use Rattle.fj_basis.specs.Members.{sugared_members, IsRowWithin}
 use Rattle.fj_basis.specs.State.{row_at, s_polynomial_row}

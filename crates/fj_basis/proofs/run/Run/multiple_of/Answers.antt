@@ -1,4 +1,4 @@
-use Rattle.std.proofs.Common.{◌≡◌, IsTrue, IfOk, ap, ap₂, ◌∙◌, sym, subst}
+use Rattle.std.proofs.Common.{IsTrue, ap, ap₂, ◌∙◌, sym, subst}
 use Rattle.std.proofs.lemmas.Result.{IfOk-weaker}
 use Rattle.fj_theory.specs.Exponents.{divides, minus}
 use Rattle.fj_theory.specs.Polynomial.{product, term}

@@ -1,4 +1,4 @@
-use Rattle.std.proofs.Common.{◌≡◌, ◌≢◌, ◌<◌, ◌≤◌, ℕ, List, Some, None, length, map, replicate, All, refl, ap, ap₂, ◌∙◌, sym, subst, subst₂, arith}
+use Rattle.std.proofs.Common.{◌≡◌, ◌≢◌, ◌<◌, length, map, replicate, All, ap, ap₂, ◌∙◌, sym, subst, subst₂, arith}
 use Rattle.std.specs.Option.{option_map}
 use Rattle.std.specs.FinMap.{empty}
 use Rattle.std.proofs.lemmas.Result.{err_from_is_err_and}
@@ -8,7 +8,6 @@ use Rattle.fj_theory.specs.Lead.{lead_coefficient}
 use Rattle.fj_theory.specs.Polynomial.{product, term}
 use Rattle.fj_theory.specs.Division.{AreWithinSugars, DegreeAtMost, IsLowDivision, degree_limit, polynomials_of}
 use Rattle.fj_theory.specs.Run.{s_polynomial}
-use Rattle.fj_theory.proofs.Division.{IsDivision-remainder_polynomial}
 use Rattle.fj_theory.proofs.Lead.{lead_coefficient-nonzero}
 use Rattle.fj_basis.specs.Members.{sugared_members}
 use Rattle.fj_basis.specs.Quotients.{AreQuotientsWithin}

@@ -1,4 +1,4 @@
-use Rattle.std.proofs.Common.{◌≡◌, ◌<◌, ◌≤◌, ◌+◌, length, sym, subst, arith}
+use Rattle.std.proofs.Common.{◌+◌, sym, subst, arith}
 use Rattle.fj_basis.specs.State.{IsFirstMember}
 use Rattle.fj_basis.proofs.Starting.{IsStarted, first-IsTraced, first-nonzero, started-all, started-more, started-none, started-zero}
 use Rattle.fj_basis.proofs.run.Run.start.Goals as goal

@@ -1,8 +1,7 @@
-use Rattle.std.proofs.Common.{◌≡◌, ◌<◌, ◌≤◌, ◌∷◌, List, Less, All, length, refl, sym, ap, ◌∙◌, subst, arith}
+use Rattle.std.proofs.Common.{refl, sym, ◌∙◌, subst, arith}
 use Rattle.std.proofs.lemmas.Result.{err_from_is_err_and}
 use Rattle.fj_basis.specs.State.{IsNextMember}
 use Rattle.fj_basis.proofs.HighOnly.{only_only}
-use Rattle.fj_basis.proofs.PendingPairs.{order_of_pairs}
 use Rattle.fj_basis.proofs.Turning.{after-appended, after-dropped, after-empty, after-nonzero, first-places, members-of, next-high, next-nonzero}
 use Rattle.fj_basis.proofs.run.Run.turn.Goals as goal
 

@@ -1,4 +1,4 @@
-use Rattle.std.proofs.Common.{◌≡◌, List, map, sym, ap, ◌∙◌, subst, subst₂, rules}
+use Rattle.std.proofs.Common.{◌≡◌, List, map, sym, ◌∙◌, subst, subst₂, rules}
 use Rattle.fj_coeff.specs.Field.{Field}
 use Rattle.fj_theory.specs.Polynomial.{Polynomial}
 use Rattle.fj_theory.specs.Plain.{polynomial}

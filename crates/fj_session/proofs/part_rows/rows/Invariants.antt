@@ -3,7 +3,7 @@ use Rattle.fj_theory.specs.Plain.{polynomial}
 use Rattle.fj_theory.specs.Polynomial.{terms_falling}
 use Rattle.fj_root.specs.Part.{parts_of}
 use Rattle.fj_session.specs.Answer.{part_of}
-use Rattle.fj_session.proofs.answering.rows.Given as goal
+use Rattle.fj_session.proofs.part_rows.rows.Given as goal
 
 -- the rows of the first parts are there
 abbrev pub invariant-loop-part : goal.invariant-loop-part

@@ -1,0 +1,29 @@
+-- What the names of a session stand for, as polynomials and lists of polynomials.
+use Rattle.std.specs.Prelude.{ℕ, List, [], Option, Some, None, map, slice_get}
+use Rattle.std.specs.FinMap.{empty}
+use Rattle.fj_theory.specs.Plain.{PlainPolynomial, polynomial}
+use Rattle.fj_theory.specs.Polynomial.{Polynomial}
+use Rattle.fj_script.specs.declared.script.Env.{Env}
+use Rattle.fj_script.specs.declared.value.Value.{Value}
+use Rattle.fj_script.specs.declared.value.Value.TheVariants as values
+
+abbrev pub polynomials : List PlainPolynomial → List Polynomial
+polynomials list = map polynomial list
+
+abbrev pub generators : Value → List Polynomial
+generators (values.Poly f) = []
+generators (values.Ideal gens) = polynomials gens
+generators (values.Point c) = []
+
+abbrev pub polynomial_of : Value → Polynomial
+polynomial_of (values.Poly f) = polynomial f
+polynomial_of (values.Ideal gens) = empty
+polynomial_of (values.Point c) = empty
+
+-- The generators of the ideal whose name has this place among the declared ones.
+abbrev pub ideal_at : Env → ℕ → List Polynomial
+ideal_at env place = elim (slice_get env.values place) [ None ↦ [] | Some named ↦ generators named.1 ]
+
+-- The polynomial whose name has this place.
+abbrev pub polynomial_at : Env → ℕ → Polynomial
+polynomial_at env place = elim (slice_get env.values place) [ None ↦ empty | Some named ↦ polynomial_of named.1 ]
