@@ -19,3 +19,8 @@ pub mod FirstLine
 pub mod Places
 pub mod Columns
 pub mod Tokens
+pub mod GrammarTokens
+pub mod Meanings
+pub mod GrammarPieces
+pub mod GrammarSound
+pub mod GrammarComplete

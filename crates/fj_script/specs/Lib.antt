@@ -13,3 +13,5 @@ pub mod Refusals
 pub mod Taken
 pub mod Limits
 pub mod Lines
+pub mod Grammar
+pub mod GrammarLaws
