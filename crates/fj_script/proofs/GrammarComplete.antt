@@ -434,7 +434,7 @@ line_is before bytes T h =
     ap (λ o. option_map_or (λ t. statements.statement before t.0 t.1 >>= λ S. Ok (Some S)) o (Ok before)) x.1
     ∙ ap (λ k. statements.statement_of before k x.0 >>= λ S. Ok (Some S)) (keyword_for h.keyword) ∙ ap (λ r. r >>= λ S. Ok (Some S)) (h.makes x.0 x.2)
 
-line_skipped : (before : Option Session) (bytes : List ℕ) → tokens_of bytes ≡ [] → statements.line before bytes ≡ Ok before
+pub line_skipped : (before : Option Session) (bytes : List ℕ) → tokens_of bytes ≡ [] → statements.line before bytes ≡ Ok before
 unfolding statements.line
 line_skipped before bytes e = ap (λ o. option_map_or (λ t. statements.statement before t.0 t.1 >>= λ S. Ok (Some S)) o (Ok before)) (no_next (state_at bytes 0) (line_tokens bytes ∙ e))
 

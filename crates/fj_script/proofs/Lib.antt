@@ -24,3 +24,7 @@ pub mod Meanings
 pub mod GrammarPieces
 pub mod GrammarSound
 pub mod GrammarComplete
+pub mod TwoRuns
+pub mod TwoReadings
+pub mod Rising
+pub mod FirstFault

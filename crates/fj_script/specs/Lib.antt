@@ -15,3 +15,4 @@ pub mod Limits
 pub mod Lines
 pub mod Grammar
 pub mod GrammarLaws
+pub mod FirstFault

@@ -1,6 +1,7 @@
 //! Theorems on sessions, over the definitions alone. A function of this module does nothing: its clause is the theorem,
 //! and the check proves it.
 
+ghost use Rattle.fj_script.specs.FirstFault.{FaultIsKnown, NothingBeforeIsWrong};
 ghost use Rattle.fj_script.specs.GrammarLaws.{AcceptedIsSession, SessionIsAccepted};
 
 /// A session that is accepted is one of the grammar, with its meaning.
@@ -11,4 +12,16 @@ pub fn accepted_is_session()
 /// A session of the grammar is accepted, with its meaning.
 pub fn session_is_accepted()
     ensures { SessionIsAccepted }
+{}
+
+/// Nothing before the place of a fault is wrong: a session that is the same in the lines before it and in the tokens of its
+/// line before it has no fault at one of these tokens, or before them.
+pub fn nothing_before_is_wrong()
+    ensures { NothingBeforeIsWrong }
+{}
+
+/// A fault is known with the token behind its place: a session that is the same through that token has this very fault,
+/// whatever follows.
+pub fn fault_is_known()
+    ensures { FaultIsKnown }
 {}
