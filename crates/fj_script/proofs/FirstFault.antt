@@ -31,7 +31,7 @@ state_begins bytes = by (tokens_from zero zero bytes) refl
     by [] e = ap (λ us. record { left = []; start = 0; end = end_of us 0 }) e
     by (t ∷ ts) e = refl
 
-line_is : (before : Option Session) (bytes : List ℕ) → line before bytes ≡ line_from before (record { left = tokens_from zero zero bytes; start = 0; end = 0 })
+pub line_is : (before : Option Session) (bytes : List ℕ) → line before bytes ≡ line_from before (record { left = tokens_from zero zero bytes; start = 0; end = 0 })
 unfolding line
 line_is before bytes = ap (line_from before) (state_begins bytes)
 
@@ -138,15 +138,15 @@ unfolding tokens_from
 empty_line = refl
 
 -- The line where lines go wrong, and the session before it.
-record FirstWrong (number : ℕ) (before : Option Session) (ls : List (List ℕ)) (fault : Fault) : Type 0 where
-  count : ℕ
-  session : Option Session
-  found : LineFault
-  is : fault ≡ record { kind = found.kind; line = number + count; column = found.column + 1 }
-  wrong : line session (get_or ls count []) ≡ Err found
-  reached : (others : List (List ℕ)) → take count ls ≡ take count others → from_line number before others ≡ from_line (number + count) session (drop count others)
+pub record FirstWrong (number : ℕ) (before : Option Session) (ls : List (List ℕ)) (fault : Fault) : Type 0 where
+  pub count : ℕ
+  pub session : Option Session
+  pub found : LineFault
+  pub is : fault ≡ record { kind = found.kind; line = number + count; column = found.column + 1 }
+  pub wrong : line session (get_or ls count []) ≡ Err found
+  pub reached : (others : List (List ℕ)) → take count ls ≡ take count others → from_line number before others ≡ from_line (number + count) session (drop count others)
 
-first_wrong : (number : ℕ) (before : Option Session) (ls : List (List ℕ)) (fault : Fault) → from_line number before ls ≡ Err fault → FirstWrong number before ls fault
+pub first_wrong : (number : ℕ) (before : Option Session) (ls : List (List ℕ)) (fault : Fault) → from_line number before ls ≡ Err fault → FirstWrong number before ls fault
 unfolding from_line
 first_wrong number before [] fault e = absurd cc
 first_wrong number before (l ∷ ls) fault e = by (line before l) refl e (λ after h. first_wrong (number + 1) after ls fault h)
@@ -199,7 +199,7 @@ no_token before bytes e = by (tokens_from zero zero bytes) (sym (line_is before 
     by [] h = (let same_session : before ≡ None = cc in same_session, refl)
     by (t ∷ ts) h = absurd (made _ h)
 
-no_tokens : (number : ℕ) (before : Option Session) (ls : List (List ℕ)) → from_line number before ls ≡ Ok None → (before ≡ None) × ((n : ℕ) → tokens_of (get_or ls n []) ≡ [])
+pub no_tokens : (number : ℕ) (before : Option Session) (ls : List (List ℕ)) → from_line number before ls ≡ Ok None → (before ≡ None) × ((n : ℕ) → tokens_of (get_or ls n []) ≡ [])
 unfolding from_line tokens_from
 no_tokens number before [] e = ((let same_session : before ≡ None = cc in same_session), λ n. refl)
 no_tokens number before (l ∷ ls) e = by (line before l) refl e (λ after h. no_tokens (number + 1) after ls h)
@@ -213,7 +213,7 @@ no_tokens number before (l ∷ ls) e = by (line before l) refl e (λ after h. no
         (here.0, λ n. elim n as (λ k. tokens_of (get_or (l ∷ ls) k []) ≡ []) [ zero ↦ here.1 | suc k ↦ rest.1 k ])
 
 -- The fault of a session with statements is one of its lines.
-lines_wrong : (bytes : List ℕ) (fault : Fault) → HasStatements bytes → script bytes ≡ Err fault → from_line 1 None (lines bytes) ≡ Err fault
+pub lines_wrong : (bytes : List ℕ) (fault : Fault) → HasStatements bytes → script bytes ≡ Err fault → from_line 1 None (lines bytes) ≡ Err fault
 lines_wrong bytes fault H e = by (from_line 1 None (lines bytes)) refl (sym (script_of_lines bytes H.short) ∙ e)
   where
     by : (r : Result (Option Session) Fault) → from_line 1 None (lines bytes) ≡ r → (r >>= with_ring) ≡ Err fault → r ≡ Err fault
@@ -232,7 +232,7 @@ at_place (x ∷ xs) zero = inr (x, xs, refl, refl)
 at_place (x ∷ xs) (suc n) = at_place xs n
 
 module _ (bytes other : List ℕ) (place : Fault) (H : HasStatements bytes) (K : HasStatements other) (e : script bytes ≡ Err place) where
-  first_place : FirstWrong 1 None (lines bytes) place
+  pub first_place : FirstWrong 1 None (lines bytes) place
   first_place = first_wrong 1 None (lines bytes) place (lines_wrong bytes place H e)
 
   count_is : place.line - 1 ≡ first_place.count

@@ -78,7 +78,7 @@ pub exponent_takes : (s : State) → Yields (Numbered (λ e. (0 ≤ e) × (e ≤
 unfolding numbers.exponent
 exponent_takes s = within_takes 0 12 s
 
-not_zero : (n : ℕ) → eqb n 0 ≡ false → 1 ≤ n
+pub not_zero : (n : ℕ) → eqb n 0 ≡ false → 1 ≤ n
 not_zero zero e = absurd cc
 not_zero (suc n) e = omega arith
 
@@ -100,10 +100,10 @@ above zero e = absurd cc
 above (suc n) e = omega arith
 
 -- A fraction that a question takes: above 0 where that is wanted.
-abbrev Taken : Bool → ℕ → ℕ → Fraction → Type 0
+abbrev pub Taken : Bool → ℕ → ℕ → Fraction → Type 0
 Taken positive m n t = IsExponent m n t × (positive ≡ true → 0 < t.numerator)
 
-ratio_of_takes : (positive : Bool) (m n : ℕ) (s : State) → m < 2 ^ 32 → n < 2 ^ 32 → Yields (λ t. Taken positive m n t.0 × (t.1 ≡ s)) (numbers.ratio_of positive m n s)
+pub ratio_of_takes : (positive : Bool) (m n : ℕ) (s : State) → m < 2 ^ 32 → n < 2 ^ 32 → Yields (λ t. Taken positive m n t.0 × (t.1 ≡ s)) (numbers.ratio_of positive m n s)
 unfolding numbers.is_exponent
 ratio_of_takes positive m zero s fits other = subst (Yields (λ t. Taken positive m zero t.0 × (t.1 ≡ s))) (sym (over_zero positive m zero s refl)) tt
 ratio_of_takes positive m (suc k) s fits other =
@@ -178,7 +178,7 @@ new_name_takes S s =
 abbrev pub Declares : Session → List ℕ → ℕ → Kind → Type 0
 Declares S w i k = (v : Value) × (slice_get S.values i ≡ Some (w, v)) × (kind v ≡ k)
 
-declared_at : (S : Session) (w : List ℕ) (i : ℕ) (k : Kind) → names.declared_as S w ≡ Some (i, k) → Declares S w i k
+pub declared_at : (S : Session) (w : List ℕ) (i : ℕ) (k : Kind) → names.declared_as S w ≡ Some (i, k) → Declares S w i k
 unfolding names.declared_as
 declared_at S w i k h = by (place_of (names.declared_names S.values) w) refl h
   where

@@ -80,7 +80,7 @@ keyword_word keywords.Ideal = codes "ideal"
 keyword_word keywords.Point = codes "point"
 keyword_word keywords.Ask = codes "ask"
 
-keyword_is : (w : List ℕ) (k : Keyword) → statements.keyword_of w ≡ Some k → w ≡ keyword_word k
+pub keyword_is : (w : List ℕ) (k : Keyword) → statements.keyword_of w ≡ Some k → w ≡ keyword_word k
 unfolding statements.keyword_of keyword_word
 keyword_is w =
     let Q : Keyword → Type 0 = λ k. w ≡ keyword_word k in
@@ -109,7 +109,7 @@ ask_word asks.Threshold = codes "threshold"
 ask_word asks.Pure = codes "fpure"
 ask_word asks.Compatible = codes "compatible"
 
-ask_is : (w : List ℕ) (a : Ask) → question.ask_of w ≡ Some a → w ≡ ask_word a
+pub ask_is : (w : List ℕ) (a : Ask) → question.ask_of w ≡ Some a → w ≡ ask_word a
 unfolding question.ask_of ask_word
 ask_is w =
     let Q : Ask → Type 0 = λ a. w ≡ ask_word a in
@@ -390,7 +390,7 @@ module _ (S : Session) (known : Contains primes S.prime) where
 
   -- ---- statements
 
-  order_named : (w : List ℕ) (name : OrderName) → statements.order_of w ≡ Some name → IsStatement S (Word (codes "order") ∷ Word w ∷ []) (record S { order = name })
+  pub order_named : (w : List ℕ) (name : OrderName) → statements.order_of w ≡ Some name → IsStatement S (Word (codes "order") ∷ Word w ∷ []) (record S { order = name })
   order_named w =
       let Q : OrderName → Type 0 = λ name. IsStatement S (Word (codes "order") ∷ Word w ∷ []) (record S { order = name }) in
       let at : (c : List ℕ) (name : OrderName) → IsStatement S (Word (codes "order") ∷ Word c ∷ []) (record S { order = name }) → w ≡ c → Q name = λ c name h e. subst (λ v. IsStatement S (Word (codes "order") ∷ Word v ∷ []) (record S { order = name })) (sym e) h in
@@ -441,7 +441,7 @@ variable_takes vs s fits =
     Q : List ℕ × State → Type 0
     Q r = Takes IsVariable s r × ((length (vs ++ r.0 ∷ []) ≤ 7) × AllPairs (λ v w. v ≢ w) (vs ++ r.0 ∷ []))
 
-prime_takes : (s : State) → Yields (λ p. (tokens_left s ≡ Number p.0 ∷ tokens_left p.1) × Contains primes p.0) (rings.prime s)
+pub prime_takes : (s : State) → Yields (λ p. (tokens_left s ≡ Number p.0 ∷ tokens_left p.1) × Contains primes p.0) (rings.prime s)
 unfolding rings.prime rings.is_prime
 prime_takes s =
     yields_then (λ n. tokens_left s ≡ Number n.0 ∷ tokens_left n.1) (λ p. (tokens_left s ≡ Number p.0 ∷ tokens_left p.1) × Contains primes p.0) _ _ (number_takes s)
@@ -510,10 +510,10 @@ line_takes before h bytes =
     (λ T k. inr (T, refl, k)))
     (λ none. inl (none, refl)))
 
-prime_of_ring : {ts : List Token} {T : Session} → IsRing ts T → Contains primes T.prime
+pub prime_of_ring : {ts : List Token} {T : Session} → IsRing ts T → Contains primes T.prime
 prime_of_ring (grammar.ring h l few apart) = h
 
-same_prime : {S T : Session} {ts : List Token} → IsStatement S ts T → Contains primes S.prime → Contains primes T.prime
+pub same_prime : {S T : Session} {ts : List Token} → IsStatement S ts T → Contains primes S.prime → Contains primes T.prime
 same_prime grammar.lex h = h
 same_prime grammar.grlex h = h
 same_prime grammar.grevlex h = h
@@ -528,7 +528,7 @@ known_next None h ts T k = prime_of_ring k
 known_next (Some S) h ts T k = same_prime k h
 
 -- What lines make of the session before them.
-abbrev Become : Option Session → List (List Token) → Option Session → Type 0
+abbrev pub Become : Option Session → List (List Token) → Option Session → Type 0
 Become None ls after = (T : Session) → after ≡ Some T → IsSession ls T
 Become (Some S) ls after = (T : Session) × (after ≡ Some T) × AreStatements S ls T
 
@@ -536,7 +536,7 @@ in_line_takes : (P : Option Session → Type 0) (number : ℕ) (r : Result (Opti
 in_line_takes P number (Ok o) h = h
 in_line_takes P number (Err fault) h = tt
 
-lines_take : (number : ℕ) (before : Option Session) → IsKnown before → (ls : List (List ℕ)) → Yields (Become before (map tokens_of ls)) (script.from_line number before ls)
+pub lines_take : (number : ℕ) (before : Option Session) → IsKnown before → (ls : List (List ℕ)) → Yields (Become before (map tokens_of ls)) (script.from_line number before ls)
 unfolding script.from_line
 lines_take number None h [] = λ T e. absurd (none-some _ e)
 lines_take number (Some S) h [] = (S, refl, grammar.none)

@@ -28,3 +28,10 @@ pub mod TwoRuns
 pub mod TwoReadings
 pub mod Rising
 pub mod FirstFault
+pub mod FineValues
+pub mod Beginnings
+pub mod Continuations
+pub mod BeginningLines
+pub mod BeginningQuestions
+pub mod BeginningStatements
+pub mod BeginningSessions

@@ -76,7 +76,7 @@ starts_below n (t ∷ ts) us h = All-cons (λ u. u.start < end_of (t ∷ ts) n) 
 abbrev pub starts_before : ℕ → Placed → Bool
 starts_before column t = ltb (t.start + 1) column
 
-none_before : (column n : ℕ) (ts : List Placed) → column ≤ n + 1 → AreRising n ts → filter (starts_before column) ts ≡ []
+pub none_before : (column n : ℕ) (ts : List Placed) → column ≤ n + 1 → AreRising n ts → filter (starts_before column) ts ≡ []
 none_before column n [] h rises = refl
 none_before column n (t ∷ ts) h rises =
     let no : starts_before column t ≡ false = le-ltb (t.start + 1) column (omega (arith, rises.0)) in

@@ -16,3 +16,4 @@ pub mod Lines
 pub mod Grammar
 pub mod GrammarLaws
 pub mod FirstFault
+pub mod Beginning

@@ -1,6 +1,7 @@
 //! Theorems on sessions, over the definitions alone. A function of this module does nothing: its clause is the theorem,
 //! and the check proves it.
 
+ghost use Rattle.fj_script.specs.Beginning.{BeginningIsLegal};
 ghost use Rattle.fj_script.specs.FirstFault.{FaultIsKnown, NothingBeforeIsWrong};
 ghost use Rattle.fj_script.specs.GrammarLaws.{AcceptedIsSession, SessionIsAccepted};
 
@@ -24,4 +25,11 @@ pub fn nothing_before_is_wrong()
 /// whatever follows.
 pub fn fault_is_known()
     ensures { FaultIsKnown }
+{}
+
+/// The text before the place of a fault is legal: its tokens can go on to the ring's line, where there is none yet, and
+/// else to a statement, of this session or of one in which the same words mean the same. Two beginnings are doomed and
+/// yet not wrong: a comma behind seven variables, and a fraction with numerator 0 where t has to be above 0.
+pub fn beginning_is_legal()
+    ensures { BeginningIsLegal }
 {}
