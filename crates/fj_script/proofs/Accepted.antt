@@ -1,18 +1,12 @@
 -- Accepted sessions: what is known of their questions for parts.
-use Rattle.std.proofs.Common.{◌≡◌, ℕ, suc, ◌+◌, ◌<◌, ◌≤◌, ◌^◌, Bool, ltb, leb, List, [], ◌∷◌, length, map, All, Contains, Option, Some, None, Result, Ok, Err, refl, sym, ap, ◌∙◌, subst, arith}
-use Rattle.std.specs.List.{slice_get}
-use Rattle.std.specs.Option.{option_map_or}
+use Rattle.std.proofs.Common.{◌≡◌, ℕ, ◌+◌, ltb, leb, List, [], ◌∷◌, length, Contains, Option, Some, None, Result, Ok, Err}
 use Rattle.std.proofs.lemmas.List.Elements.{All-nil}
 use Rattle.fj_coeff.specs.Field.{primes}
-use Rattle.fj_theory.specs.Exponents.{total}
 use Rattle.fj_text.specs.State.{State, next, state_at}
-use Rattle.fj_text.specs.Token.{Token}
-use Rattle.fj_script.specs.declared.fault.Fault.{Fault}
 use Rattle.fj_script.specs.declared.fault.LineFault.{LineFault}
 use Rattle.fj_script.specs.declared.statement.Keyword.{Keyword}
 use Rattle.fj_script.specs.declared.statement.Keyword.TheVariants as keywords
 use Rattle.fj_script.specs.Items.{listed, number, word, word_of}
-use Rattle.fj_script.specs.LineFault.{◌>>=◌}
 use Rattle.fj_script.specs.Numbers as numbers
 use Rattle.fj_script.specs.Question.{question_at}
 use Rattle.fj_script.specs.Ring as rings

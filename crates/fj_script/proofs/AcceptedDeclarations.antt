@@ -1,8 +1,8 @@
 -- What statements keep: the declared polynomials are over GF(p), in the variables of the ring and of degree at most
 -- 1,000, and each question for parts has an e of at most 12 and names a polynomial.
-use Rattle.std.proofs.Common.{◌≡◌, ℕ, zero, suc, ◌+◌, ◌<◌, ◌≤◌, Bool, true, false, ◌||◌, ltb, List, [], ◌∷◌, ◌++◌, length, map, get_or, length-append, All, Contains, Option, Some, None, Result, Ok, Err, refl, sym, ap, ◌∙◌, subst, arith}
-use Rattle.std.specs.List.{slice_get, list_any}
-use Rattle.std.specs.Option.{option_map, option_map_or}
+use Rattle.std.proofs.Common.{◌≡◌, ℕ, ◌+◌, ◌<◌, ◌≤◌, Bool, true, false, ltb, List, [], ◌∷◌, ◌++◌, length, length-append, All, Contains, Option, Some, None, Result, Ok, Err, refl, sym, ap, ◌∙◌, subst, arith}
+use Rattle.std.specs.List.{slice_get}
+use Rattle.std.specs.Option.{option_map_or}
 use Rattle.std.specs.FinMap.{get}
 use Rattle.std.specs.Option.{is_some}
 use Rattle.std.specs.Str.{bytes_eq}
@@ -22,16 +22,10 @@ use Rattle.fj_theory.proofs.Terms.{terms_falling-get}
 use Rattle.fj_text.proofs.FirstVariables.{AreZeroFrom}
 use Rattle.fj_text.specs.declared.scope.Meaning.TheVariants as meanings
 use Rattle.fj_text.specs.Expression as text
-use Rattle.fj_text.specs.State.{State, after_sign, next}
-use Rattle.fj_text.specs.Token.{Token}
+use Rattle.fj_text.specs.State.{State, next}
 use Rattle.fj_text.specs.Word.{place_of}
-use Rattle.fj_script.specs.declared.fault.FaultKind.{FaultKind}
-use Rattle.fj_script.specs.declared.fault.LineFault.{LineFault}
-use Rattle.fj_script.specs.declared.question.Asked.{Asked}
 use Rattle.fj_script.specs.declared.question.Question.{Question}
 use Rattle.fj_script.specs.declared.question.Question.TheVariants as questions
-use Rattle.fj_script.specs.declared.value.Kind.{Kind}
-use Rattle.fj_script.specs.declared.value.Kind.TheVariants as kinds
 use Rattle.fj_script.specs.Declaration as declaration
 use Rattle.fj_script.specs.Items.{at_end, enclosed, listed}
 use Rattle.fj_script.specs.LineFault.{◌>>=◌}

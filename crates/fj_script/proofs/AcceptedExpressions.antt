@@ -1,5 +1,5 @@
 -- What an expression reads is a polynomial over the field in the variables of the text, of degree at most 1,000.
-use Rattle.std.proofs.Common.{◌≡◌, ℕ, zero, suc, ◌%◌, ◌<◌, ◌≤◌, Bool, eqb, List, length, Option, Some, None, Result, Ok, Err, refl, subst, arith}
+use Rattle.std.proofs.Common.{◌≡◌, ℕ, zero, suc, ◌%◌, ◌<◌, eqb, List, length, Option, Some, None, Result, Ok, Err, refl, subst, arith}
 use Rattle.std.proofs.lemmas.Nat.{mod_below}
 use Rattle.std.proofs.lemmas.Option.{none-some, same_Some}
 use Rattle.std.specs.Option.{option_map, option_map_or}
@@ -9,7 +9,7 @@ use Rattle.fj_text.specs.declared.fault.Fault.{Fault}
 use Rattle.fj_text.specs.declared.scope.Meaning.{Meaning}
 use Rattle.fj_text.specs.declared.scope.Meaning.TheVariants as meanings
 use Rattle.fj_text.specs.Expression as text
-use Rattle.fj_text.specs.State.{State, ◌>>=◌, after_sign, next, unexpected}
+use Rattle.fj_text.specs.State.{State, ◌>>=◌, after_sign, next}
 use Rattle.fj_text.specs.Token.{Token, Word, Number, Sign, BadByte, opening, closing, minus, plus, star, caret}
 use Rattle.fj_script.proofs.AcceptedPolynomials.{IsSmallIn, constant_small, negation_small, power_small, product_small, sum_small, variable_small, within_small}
 use Rattle.fj_script.proofs.AcceptedPrimes.{prime_positive}

@@ -1,7 +1,5 @@
 -- Polynomials over a field in the first variables, of degree at most 1,000, and how they are formed.
-use Rattle.std.proofs.Common.{◌≡◌, ◌≢◌, ℕ, zero, suc, ◌+◌, ◌%◌, ◌<◌, ◌≤◌, Bool, true, false, true≢false, cond, ◌||◌, ltb, ltb-false, length-set, get_or-set_other, List, [], ◌∷◌, length, get_or, set, All, Option, Some, None, unwrap_or, refl, sym, ap, ◌∙◌, subst, arith}
-use Rattle.std.specs.FinMap.{empty, get, len}
-use Rattle.std.specs.Ordering.{nat_cmp}
+use Rattle.std.proofs.Common.{◌≡◌, ℕ, zero, suc, ◌<◌, ◌≤◌, Bool, true, false, true≢false, cond, ◌||◌, ltb-false, length-set, get_or-set_other, List, [], ◌∷◌, get_or, All, Option, Some, None, unwrap_or, refl, ap, ◌∙◌, subst, arith}
 use Rattle.std.specs.List.{list_any}
 use Rattle.std.specs.Option.{option_and_then}
 use Rattle.std.proofs.lemmas.Cmp.{eq_by_cmp_equiv, nat_list_cmp_total}
@@ -16,7 +14,7 @@ use Rattle.fj_theory.proofs.Exponents.{IsExponents-origin, total_origin}
 use Rattle.fj_theory.proofs.Field.{one_below}
 use Rattle.fj_theory.proofs.FormalSum.{same}
 use Rattle.fj_theory.proofs.Degree.{degree_bounds, empty_from_degree}
-use Rattle.fj_theory.proofs.Polynomial.{All_same, IsPolynomial-sum, IsPolynomial-term, coefficient-empty, get-coefficient, support-with_coefficients, support_found, support_listed}
+use Rattle.fj_theory.proofs.Polynomial.{All_same, IsPolynomial-sum, IsPolynomial-term, coefficient-empty, support-with_coefficients, support_found, support_listed}
 use Rattle.fj_theory.proofs.PolynomialRing.{IsPolynomial-negation}
 use Rattle.fj_theory.proofs.Product.{IsPolynomial-product}
 use Rattle.fj_theory.proofs.Plain.{within-product, within-sum}

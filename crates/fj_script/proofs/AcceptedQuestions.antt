@@ -1,10 +1,9 @@
 -- Questions that are read: a question for parts has an e of at most 12 and names a polynomial.
-use Rattle.std.proofs.Common.{◌≡◌, ℕ, ◌<◌, ◌≤◌, Bool, true, false, ◌||◌, ltb, ltb-false, List, Option, Some, None, Result, Ok, Err, refl, sym, ap, ◌∙◌, subst, arith}
+use Rattle.std.proofs.Common.{◌≡◌, ℕ, ◌≤◌, ◌||◌, ltb, ltb-false, List, Option, Some, None, Ok, Err, refl, sym, ap, ◌∙◌, subst}
 use Rattle.std.specs.List.{slice_get}
-use Rattle.std.specs.Option.{is_some, option_and_then, option_map, option_map_or}
+use Rattle.std.specs.Option.{option_and_then, option_map, option_map_or}
 use Rattle.std.proofs.lemmas.Option.{none-some, same_Some}
 use Rattle.fj_text.specs.State.{State, next}
-use Rattle.fj_text.specs.Token.{Token}
 use Rattle.fj_text.specs.Word.{place_of}
 use Rattle.fj_script.specs.declared.ask.Ask.{Ask}
 use Rattle.fj_script.specs.declared.ask.Ask.TheVariants as asks
@@ -21,14 +20,13 @@ use Rattle.fj_script.specs.declared.fault.LineFault.{LineFault}
 use Rattle.fj_script.specs.declared.question.Question.{Question}
 use Rattle.fj_script.specs.declared.question.Question.TheVariants as questions
 use Rattle.fj_script.specs.declared.value.Kind.{Kind}
-use Rattle.fj_script.specs.declared.value.Kind.TheVariants as kinds
 use Rattle.fj_script.specs.Items.{narrow, word, word_of}
 use Rattle.fj_script.specs.LineFault.{Answer, ◌>>=◌}
 use Rattle.fj_script.specs.Names as names
 use Rattle.fj_script.specs.Numbers.{exponent, level, ratio, within}
 use Rattle.fj_script.specs.Question as question
 use Rattle.fj_script.specs.Question.{Target}
-use Rattle.fj_script.specs.Session.{Session, Value, Poly, Ideal, Point, is_nonconstant, kind}
+use Rattle.fj_script.specs.Session.{Session, Value, Poly, Ideal, Point, kind}
 use Rattle.fj_script.proofs.AcceptedPolynomials.{or_false}
 use Rattle.fj_script.proofs.AcceptedDeclarations.{IsSoundQuestion, NamesPoly, yields_then}
 use Rattle.fj_script.proofs.AcceptedYields.{Yields, Anything, yields_anything, yields_if, yields_option}

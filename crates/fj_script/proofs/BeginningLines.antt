@@ -1,50 +1,30 @@
 -- What was read before the fault of a line can go on.
-use Rattle.std.proofs.Common.{◌≡◌, ◌≢◌, ℕ, zero, suc, ◌+◌, ◌-◌, ◌*◌, ◌%◌, ◌^◌, ◌<◌, ◌≤◌, Bool, true, false, cond, ◌||◌, IsTrue, eqb, leb, ltb, List, [], ◌∷◌, ◌++◌, length, map, drop, replicate, sum, codes, All, AllPairs, Contains, Option, Some, None, Result, Ok, Err, refl, sym, ap, ◌∙◌, subst, arith, append_assoc, inl, inr, ◌⊎◌}
+use Rattle.std.proofs.Common.{◌≡◌, ℕ, ◌+◌, ◌^◌, ◌<◌, ◌≤◌, cond, ◌||◌, eqb, leb, ltb, List, [], ◌∷◌, ◌++◌, length, codes, Contains, Option, Some, None, Ok, Err, refl, sym, ap, ◌∙◌, subst, arith, inl, ◌⊎◌}
 use Rattle.std.specs.List.{slice_get}
-use Rattle.std.specs.Option.{is_some, option_map_or}
+use Rattle.std.specs.Option.{option_map_or}
 use Rattle.std.proofs.lemmas.Bool.{leb-false, ltb-false}
-use Rattle.std.proofs.lemmas.List.{append-nil, length-append}
 use Rattle.fj_coeff.specs.Field.{primes}
-use Rattle.fj_theory.specs.Fraction.{Fraction}
-use Rattle.fj_text.specs.State.{State, after, after_sign, end_of, next, unexpected}
-use Rattle.fj_text.specs.Token.{Token, Word, Number, Sign, BadByte, Placed, closing, minus, opening}
-use Rattle.fj_text.specs.Word.{place_of}
-use Rattle.fj_script.specs.Beginning.{CanGoOn, IsAlikeFor, IsDoomed}
-use Rattle.fj_script.specs.Beginning as beginning
-use Rattle.fj_script.specs.declared.ask.Ask.{Ask}
-use Rattle.fj_script.specs.declared.ask.Ask.TheVariants as asks
-use Rattle.fj_script.specs.declared.ask.OneIdeal.{OneIdeal}
-use Rattle.fj_script.specs.declared.ask.OneIdeal.TheVariants as ones
-use Rattle.fj_script.specs.declared.ask.TwoIdeals.{TwoIdeals}
-use Rattle.fj_script.specs.declared.ask.TwoIdeals.TheVariants as twos
-use Rattle.fj_script.specs.declared.ask.Frobenius.{Frobenius}
-use Rattle.fj_script.specs.declared.ask.Frobenius.TheVariants as frobenius
-use Rattle.fj_script.specs.declared.ask.TestIdeal.{TestIdeal}
-use Rattle.fj_script.specs.declared.ask.TestIdeal.TheVariants as tests
+use Rattle.fj_text.specs.State.{State, after, end_of, unexpected}
+use Rattle.fj_text.specs.Token.{Token, Word, Number, Sign, BadByte, Placed}
+use Rattle.fj_script.specs.Beginning.{CanGoOn, IsDoomed}
 use Rattle.fj_script.specs.declared.fault.FaultKind.{FaultKind}
 use Rattle.fj_script.specs.declared.fault.FaultKind.TheVariants as kinds
 use Rattle.fj_script.specs.declared.fault.LineFault.{LineFault}
 use Rattle.fj_script.specs.declared.question.Question.{Question}
-use Rattle.fj_script.specs.declared.question.Question.TheVariants as questions
 use Rattle.fj_script.specs.declared.value.Kind.{Kind}
 use Rattle.fj_script.specs.declared.value.Kind.TheVariants as values
 use Rattle.fj_script.specs.Grammar as grammar
 use Rattle.fj_script.specs.Grammar.{IsExponent, IsLevel, IsQuestion, IsRatio, NamesIdeal, NamesNonconstant, NamesPoint, NamesPolynomial}
-use Rattle.fj_script.specs.Items.{narrow, number, number_of, sign, slash, taking, word, word_of}
+use Rattle.fj_script.specs.Items.{narrow, number, number_of, word, word_of}
 use Rattle.fj_script.specs.LineFault.{Answer, ◌>>=◌, fault_at, not_here}
 use Rattle.fj_script.specs.Names as names
 use Rattle.fj_script.specs.Numbers as numbers
 use Rattle.fj_script.specs.Question as question
 use Rattle.fj_script.specs.Question.{Target}
-use Rattle.fj_script.specs.Session.{Session, Terms, Value, Poly, Ideal, Point, ask, is_nonconstant, kind}
-use Rattle.fj_script.proofs.AcceptedYields.{Yields}
-use Rattle.fj_script.proofs.Beginnings.{StandsAt, Reading, SoFar, Stuck, all_left, behind, end_last, late, read, reading_if, reading_next, reading_sign, stuck, taken, then_reading, tokens_all, wrong_next}
-use Rattle.fj_script.proofs.Continuations.{extra, fresh, longest, nothing_ratio, one_above, one_ratio, some_ideal, some_level, some_nonconstant, some_point, some_polynomial, whole_ratio, wide, wide_alike, wide_ideal, wide_nonconstant, wide_point, wide_polynomial, zero_ratio}
-use Rattle.fj_script.proofs.GrammarPieces.{Declares, as_ideal, as_nonconstant, as_point, as_polynomial, declared_at, neither, not_zero, ratio_of_takes}
-use Rattle.fj_script.proofs.GrammarSound.{ask_is, ask_word}
-
-abbrev Column : LineFault → ℕ
-Column e = e.column
+use Rattle.fj_script.specs.Session.{Session, Value, ask, kind}
+use Rattle.fj_script.proofs.Beginnings.{StandsAt, Reading, SoFar, Stuck, all_left, behind, end_last, late, read, reading_if, reading_next, stuck, then_reading, tokens_all}
+use Rattle.fj_script.proofs.Continuations.{fresh, longest, some_ideal, some_level, some_nonconstant, some_polynomial, wide, wide_alike, wide_ideal, wide_nonconstant, wide_point, wide_polynomial}
+use Rattle.fj_script.proofs.GrammarPieces.{Declares, as_ideal, as_nonconstant, as_point, as_polynomial, declared_at, neither, not_zero}
 
 -- What may stand before the place of a fault.
 abbrev pub MayStand : Option Session → List Token → Type 0
@@ -116,9 +96,6 @@ module _ (s0 : State) (V : List Token → Type 0) where
       (λ f. let both = neither (eqb n 0) (ltb 65536 (p ^ n)) f in read us (Number n, e.0, (tt, refl, record { above_zero = not_zero n both.0; low = ltb-false 65536 (p ^ n) both.1 })) Hu))
 
   module _ (S : Session) where
-    IsDeclaredAs : ℕ × Kind → List Token → Type 0
-    IsDeclaredAs x us = (w : List ℕ) × (us ≡ Word w ∷ []) × Declares S w x.0 x.1
-
     declared_by_reading : (ws : List Token) (tok : Token) (u : State) → SoFar s0 V (ws ++ tok ∷ []) u
         → Reading s0 V (λ (e : LineFault). e.column) (λ x us. (w : List ℕ) × (us ≡ Word w ∷ []) × Declares S w x.0 x.1) ws (names.declared_by S tok u)
     unfolding names.declared_by word_of
@@ -229,9 +206,6 @@ taken_behind s0 U V H v p rest e = record {
 -- ---- the questions of a session
 
 module _ (s0 : State) (S : Session) (known : Contains primes S.prime) where
-  abbrev W : List Token → Type 0
-  W = MayStand (Some S)
-
   pub ask_goes : (ts : List Token) → ((n : ℕ) → (more : List Token) × (q : Question) × IsQuestion (wide S n) (ts ++ more) q) → MayStand (Some S) (Word (codes "ask") ∷ ts)
   ask_goes ts f = let n = longest ts in let x = f n in inl (wide S n, wide_alike ts S, x.0, ask (wide S n) x.1, grammar.asked (omega arith) x.2)
 

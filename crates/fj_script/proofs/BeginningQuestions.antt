@@ -1,39 +1,35 @@
 -- What was read of a question before a fault can go on.
-use Rattle.std.proofs.Common.{◌≡◌, ◌≢◌, ℕ, zero, suc, ◌+◌, ◌^◌, ◌<◌, ◌≤◌, Bool, true, false, cond, leb, ltb, List, [], ◌∷◌, ◌++◌, length, codes, Contains, Option, Some, None, Result, Ok, Err, refl, sym, ap, ◌∙◌, subst, arith, append_assoc, inl, inr, ◌⊎◌}
+use Rattle.std.proofs.Common.{◌≡◌, ℕ, zero, suc, ◌+◌, ◌^◌, ◌<◌, Bool, true, false, cond, leb, List, [], ◌∷◌, ◌++◌, length, codes, Contains, Option, Some, None, Ok, Err, refl, sym, ap, ◌∙◌, subst, arith, append_assoc, inr}
 use Rattle.std.specs.Option.{option_map_or}
 use Rattle.std.proofs.lemmas.Bool.{leb-false}
 use Rattle.fj_coeff.specs.Field.{primes}
 use Rattle.fj_theory.specs.Fraction.{Fraction}
-use Rattle.fj_text.specs.State.{State, after, after_sign, next, unexpected}
-use Rattle.fj_text.specs.Token.{Token, Word, Number, Sign, BadByte, Placed}
+use Rattle.fj_text.specs.State.{State, after, after_sign, next}
+use Rattle.fj_text.specs.Token.{Token, Word, Number, Sign, Placed}
 use Rattle.fj_script.specs.Beginning as beginning
 use Rattle.fj_script.specs.declared.ask.Ask.{Ask}
 use Rattle.fj_script.specs.declared.ask.Ask.TheVariants as asks
-use Rattle.fj_script.specs.declared.ask.OneIdeal.{OneIdeal}
 use Rattle.fj_script.specs.declared.ask.OneIdeal.TheVariants as ones
-use Rattle.fj_script.specs.declared.ask.TwoIdeals.{TwoIdeals}
 use Rattle.fj_script.specs.declared.ask.TwoIdeals.TheVariants as twos
-use Rattle.fj_script.specs.declared.ask.Frobenius.{Frobenius}
 use Rattle.fj_script.specs.declared.ask.Frobenius.TheVariants as frobenius
 use Rattle.fj_script.specs.declared.ask.TestIdeal.{TestIdeal}
 use Rattle.fj_script.specs.declared.ask.TestIdeal.TheVariants as tests
 use Rattle.fj_script.specs.declared.fault.FaultKind.TheVariants as kinds
 use Rattle.fj_script.specs.declared.fault.LineFault.{LineFault}
-use Rattle.fj_script.specs.declared.question.Question.{Question}
 use Rattle.fj_script.specs.declared.question.Question.TheVariants as questions
 use Rattle.fj_script.specs.Grammar as grammar
 use Rattle.fj_script.specs.Grammar.{IsExponent, IsLevel, IsQuestion, IsRatio, NamesIdeal, NamesNonconstant, NamesPoint}
-use Rattle.fj_script.specs.Items.{narrow, number, number_of, slash, taking, word}
+use Rattle.fj_script.specs.Items.{narrow, number, number_of, slash}
 use Rattle.fj_script.specs.LineFault.{Answer, ◌>>=◌, fault_at, not_here}
 use Rattle.fj_script.specs.Names as names
 use Rattle.fj_script.specs.Numbers as numbers
 use Rattle.fj_script.specs.Question as question
 use Rattle.fj_script.specs.Question.{Target}
 use Rattle.fj_script.specs.Session.{Session}
-use Rattle.fj_script.proofs.AcceptedYields.{Yields, yielded}
-use Rattle.fj_script.proofs.Beginnings.{Reading, SoFar, Stuck, behind, late, read, reading_if, reading_next, sign_taken, stuck, taken, then_reading}
-use Rattle.fj_script.proofs.BeginningLines.{Argument, Asks, IsName, MayStand, TargetIn, ask_goes, asks_one, asks_three, asks_two, exponent_argument, ideal_argument, ideal_reading, level_argument, narrow_reading, nonconstant_argument, nonconstant_reading, number_of_reading, point_by_reading, polynomial_argument, taken_behind, target_argument, word_reading, wrong_behind}
-use Rattle.fj_script.proofs.Continuations.{fresh, nothing_ratio, one_above, one_ratio, some_ideal, some_nonconstant, some_point, whole_ratio, wide, wide_ideal, wide_nonconstant, wide_point, zero_ratio}
+use Rattle.fj_script.proofs.AcceptedYields.{Yields}
+use Rattle.fj_script.proofs.Beginnings.{Reading, SoFar, behind, late, read, reading_if, sign_taken, stuck, taken, then_reading}
+use Rattle.fj_script.proofs.BeginningLines.{Asks, MayStand, TargetIn, ask_goes, asks_one, asks_three, asks_two, exponent_argument, ideal_argument, ideal_reading, level_argument, narrow_reading, nonconstant_argument, nonconstant_reading, number_of_reading, point_by_reading, polynomial_argument, taken_behind, target_argument, word_reading, wrong_behind}
+use Rattle.fj_script.proofs.Continuations.{fresh, nothing_ratio, one_above, one_ratio, some_ideal, some_nonconstant, whole_ratio, wide, wide_ideal, wide_nonconstant, zero_ratio}
 use Rattle.fj_script.proofs.GrammarPieces.{Taken, ratio_of_takes}
 use Rattle.fj_script.proofs.GrammarSound.{ask_is, ask_word}
 

@@ -1,41 +1,36 @@
 -- What stands before the fault of a session can go on.
-use Rattle.std.proofs.Common.{◌≡◌, ◌≢◌, ℕ, zero, suc, ◌+◌, ◌-◌, ◌<◌, ◌≤◌, Bool, true, false, cond, leb, ltb, List, [], ◌∷◌, ◌++◌, length, map, get_or, take, drop, codes, All, AllPairs, Contains, Option, Some, None, Result, Ok, Err, refl, sym, ap, ◌∙◌, subst, arith, append_assoc, inl, inr, ◌⊎◌, ⊎_elim}
+use Rattle.std.proofs.Common.{◌≡◌, ◌≢◌, ℕ, zero, suc, ◌+◌, ◌-◌, ◌<◌, ◌≤◌, true, cond, leb, List, [], ◌∷◌, ◌++◌, length, map, get_or, take, drop, codes, All, AllPairs, Contains, Option, Some, None, Result, Ok, Err, refl, sym, ap, ◌∙◌, subst, arith, append_assoc, inl, inr, ⊎_elim}
 use Rattle.std.specs.List.{filter}
 use Rattle.std.specs.Option.{is_some, option_map_or}
-use Rattle.std.proofs.lemmas.Bool.{cases_lt, leb-false, ltb-true, le-ltb, lt-ltb}
+use Rattle.std.proofs.lemmas.Bool.{cases_lt, leb-false, lt-ltb}
 use Rattle.std.proofs.lemmas.List.{append-nil, get_or-map, length-append, length-map}
-use Rattle.std.proofs.lemmas.List.Elements.{All-nil}
 use Rattle.fj_coeff.specs.Field.{primes}
 use Rattle.fj_plain.specs.declared.order_name.OrderName.{OrderName}
-use Rattle.fj_plain.specs.declared.order_name.OrderName.TheVariants as orders
 use Rattle.fj_text.specs.Grammar.{tokens_left}
-use Rattle.fj_text.specs.State.{State, after, end_of, next, state_at}
+use Rattle.fj_text.specs.State.{State, after, end_of, next}
 use Rattle.fj_text.specs.Token.{Token, Word, Number, Sign, BadByte, Placed, tokens_from}
 use Rattle.fj_text.specs.Word.{place_of}
 use Rattle.fj_script.specs.Beginning.{BeginningIsLegal, CanGoOn, IsDoomed, MakeSession}
 use Rattle.fj_script.specs.Beginning as beginning
-use Rattle.fj_script.specs.declared.fault.Fault.{Fault}
 use Rattle.fj_script.specs.declared.fault.FaultKind.TheVariants as kinds
 use Rattle.fj_script.specs.declared.fault.LineFault.{LineFault}
 use Rattle.fj_script.specs.declared.question.Question.{Question}
 use Rattle.fj_script.specs.declared.statement.Keyword.{Keyword}
 use Rattle.fj_script.specs.declared.statement.Keyword.TheVariants as keywords
-use Rattle.fj_script.specs.FirstFault.{HasStatements, line_at, tokens_before}
+use Rattle.fj_script.specs.FirstFault.{line_at, tokens_before}
 use Rattle.fj_script.specs.Grammar as grammar
 use Rattle.fj_script.specs.Grammar.{AreListed, AreStatements, IsQuestion, IsRing, IsSession, IsStatement, IsVariable, tokens_of}
-use Rattle.fj_script.specs.Items.{at_end, comma, listed, number, word, word_of}
-use Rattle.fj_script.specs.LineFault.{Answer, ◌>>=◌, fault_at}
-use Rattle.fj_script.specs.Numbers as numbers
-use Rattle.fj_script.specs.Question.{question_at}
+use Rattle.fj_script.specs.Items.{at_end, comma, number, word_of}
+use Rattle.fj_script.specs.LineFault.{◌>>=◌, fault_at}
 use Rattle.fj_script.specs.Ring as rings
-use Rattle.fj_script.specs.Script.{from_line, lines, script}
-use Rattle.fj_script.specs.Session.{Session, Terms, ask, new_session}
+use Rattle.fj_script.specs.Script.{from_line, lines}
+use Rattle.fj_script.specs.Session.{Session, new_session}
 use Rattle.fj_script.specs.Statement as statements
-use Rattle.fj_script.proofs.AcceptedYields.{Yields, yielded}
-use Rattle.fj_script.proofs.FirstFault.{FirstWrong, first_wrong, line_is, lines_wrong, no_tokens}
+use Rattle.fj_script.proofs.AcceptedYields.{yielded}
+use Rattle.fj_script.proofs.FirstFault.{first_wrong, line_is, lines_wrong, no_tokens}
 use Rattle.fj_script.proofs.Rising.{AreRising, line_rises, none_before, rising_behind, starts_before, starts_below}
 use Rattle.fj_script.proofs.TwoReadings.{line_from}
-use Rattle.fj_script.proofs.Beginnings.{Reading, SoFar, StandsAt, Stuck, behind, late, read, reading_if, stuck, then_reading, toks}
+use Rattle.fj_script.proofs.Beginnings.{Reading, SoFar, StandsAt, Stuck, behind, late, read, reading_if, stuck, then_reading}
 use Rattle.fj_script.proofs.BeginningLines.{MayStand, ask_goes, number_reading, within_reading, word_reading}
 use Rattle.fj_script.proofs.BeginningQuestions.{question_reading}
 use Rattle.fj_script.proofs.BeginningStatements.{IsStopped, bare, bare_alike, ideal_stopped, listed_more, listed_reading, point_stopped, poly_stopped, reading_with, stop_end, stop_if, stop_then}

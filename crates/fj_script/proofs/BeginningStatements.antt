@@ -1,11 +1,10 @@
 -- What was read of a statement before a fault can go on.
-use Rattle.std.proofs.Common.{◌≡◌, ◌≢◌, ℕ, zero, suc, ◌+◌, ◌-◌, ◌*◌, ◌%◌, ◌^◌, ◌<◌, ◌≤◌, Bool, true, false, cond, ◌||◌, leb, ltb, List, [], ◌∷◌, ◌++◌, length, map, drop, sum, codes, All, AllPairs, Contains, Option, Some, None, Result, Ok, Err, refl, sym, ap, ◌∙◌, subst, arith, append_assoc, inl, inr, ◌⊎◌}
-use Rattle.std.specs.List.{sum_by}
+use Rattle.std.proofs.Common.{◌≡◌, ℕ, zero, suc, ◌+◌, ◌-◌, ◌*◌, ◌%◌, ◌^◌, ◌<◌, ◌≤◌, Bool, true, false, cond, ◌||◌, leb, ltb, List, [], ◌∷◌, ◌++◌, length, map, sum, codes, Contains, Option, Some, None, Result, Ok, Err, refl, sym, ap, ◌∙◌, subst, arith, append_assoc, inl}
 use Rattle.std.specs.Option.{is_some, option_map_or}
-use Rattle.std.proofs.lemmas.Bool.{cases_lt, leb-false, ltb-false}
+use Rattle.std.proofs.lemmas.Bool.{leb-false, ltb-false}
 use Rattle.std.proofs.lemmas.List.{append-nil, length-append, map-append}
 use Rattle.std.proofs.lemmas.List.Elements.{All-nil, Contains-append_left}
-use Rattle.std.proofs.lemmas.List.Sums.{sum_by-append, sum_by-cons}
+use Rattle.std.proofs.lemmas.List.Sums.{sum_by-append}
 use Rattle.fj_coeff.specs.Field.{primes}
 use Rattle.fj_coeff.specs.PrimeField.{prime_field}
 use Rattle.fj_coeff.specs.PrimeFieldLaws.{IsField-prime_field}
@@ -13,41 +12,30 @@ use Rattle.fj_theory.specs.MonomialOrder.{grevlex_key}
 use Rattle.fj_theory.specs.Polynomial.{Polynomial, terms_falling}
 use Rattle.fj_theory.proofs.Keys.{grevlex_key-IsMonomialOrder}
 use Rattle.fj_theory.proofs.Terms.{length-terms_falling}
-use Rattle.fj_plain.specs.declared.order_name.OrderName.TheVariants as orders
 use Rattle.fj_text.specs.declared.fault.Fault as faults
 use Rattle.fj_text.specs.Expression as text
 use Rattle.fj_text.specs.Grammar as expressions
 use Rattle.fj_text.specs.Grammar.{tokens_left}
-use Rattle.fj_text.specs.State.{State, after, after_sign, next, unexpected}
+use Rattle.fj_text.specs.State.{State, after_sign, next}
 use Rattle.fj_text.specs.Token.{Token, Word, Number, Sign, Placed, closing, minus, opening}
 use Rattle.fj_text.specs.Word.{place_of}
-use Rattle.fj_script.specs.Beginning.{CanGoOn, IsAlikeFor, IsDoomed}
-use Rattle.fj_script.specs.Beginning as beginning
+use Rattle.fj_script.specs.Beginning.{CanGoOn, IsAlikeFor}
 use Rattle.fj_script.specs.declared.fault.FaultKind.TheVariants as kinds
 use Rattle.fj_script.specs.declared.fault.LineFault.{LineFault}
-use Rattle.fj_script.specs.declared.statement.Keyword.{Keyword}
-use Rattle.fj_script.specs.declared.statement.Keyword.TheVariants as keywords
 use Rattle.fj_script.specs.Declaration as declaration
 use Rattle.fj_script.specs.Grammar as grammar
 use Rattle.fj_script.specs.Grammar.{AreListed, HasTerms, IsCoordinate, IsNew, IsQuestion, IsRing, IsStatement, IsVariable}
-use Rattle.fj_script.specs.Items.{at_end, comma, enclosed, equals, listed, more, narrow, number, sign, word, word_of}
+use Rattle.fj_script.specs.Items.{at_end, comma, enclosed, equals, listed, more, narrow, sign}
 use Rattle.fj_script.specs.LineFault.{Answer, ◌>>=◌, fault_at, not_here}
 use Rattle.fj_script.specs.Names as names
-use Rattle.fj_script.specs.Numbers as numbers
-use Rattle.fj_script.specs.Question.{question_at}
-use Rattle.fj_script.specs.Ring as rings
-use Rattle.fj_script.specs.Session.{Session, Terms, Value, Poly, Ideal, Point, ask, declare, new_session, terms_in}
-use Rattle.fj_script.specs.Statement as statements
+use Rattle.fj_script.specs.Session.{Session, Terms, Ideal, Point, declare, terms_in}
 use Rattle.fj_script.proofs.AcceptedYields.{Yields}
-use Rattle.fj_script.proofs.Beginnings.{GoesOn, Reading, SoFar, Stuck, Whole, behind, expression_reading, late, read, reading_if, reading_sign, sign_taken, stuck, taken, then_reading, wrong_next}
-use Rattle.fj_script.proofs.BeginningLines.{MayStand, ask_goes, narrow_reading, number_reading, within_reading, word_reading}
-use Rattle.fj_script.proofs.BeginningQuestions.{question_reading}
+use Rattle.fj_script.proofs.Beginnings.{Reading, SoFar, Stuck, Whole, behind, expression_reading, late, read, reading_if, reading_sign, sign_taken, stuck, then_reading, wrong_next}
+use Rattle.fj_script.proofs.BeginningLines.{MayStand, narrow_reading, word_reading}
 use Rattle.fj_script.proofs.Continuations.{new_word, new_word-is}
 use Rattle.fj_script.proofs.FineValues.{IsFine, fine_constant}
-use Rattle.fj_script.proofs.GrammarPieces.{new_name_takes, nothing_found}
-use Rattle.fj_script.proofs.GrammarSound.{keyword_is, keyword_word, prime_takes}
-use Rattle.fj_script.proofs.Meanings.{among_variables, expression_along, in_session}
-use Rattle.fj_script.proofs.NewNames.{pairs_more, unlike}
+use Rattle.fj_script.proofs.GrammarPieces.{new_name_takes}
+use Rattle.fj_script.proofs.Meanings.{among_variables, expression_along}
 
 -- one item more
 pub listed_more : {A : Type 0} {Is : List Token → A → Type 0} {us vs : List Token} {xs : List A} {x : A} → AreListed Is us xs → Is vs x → AreListed Is (us ++ Sign comma ∷ vs) (xs ++ x ∷ [])
@@ -237,7 +225,7 @@ module _ (s0 : State) (S : Session) (known : Contains primes S.prime) (some_vari
     rest ++ Sign closing ∷ [],
     _,
     subst (λ ws. IsStatement (bare S) (Word (codes "ideal") ∷ Word name ∷ Sign equals ∷ Sign opening ∷ ws) (declare (bare S) name (Ideal fs) (terms_in fs))) (append_assoc us rest (Sign closing ∷ []))
-    (grammar.ideal (new_in_bare name new) l.0 l.1 (omega (arith, l.1, l.2))),
+        (grammar.ideal (new_in_bare name new) l.0 l.1 (omega (arith, l.1, l.2))),
   )
 
   ideal_begins : MayStand (Some S) (Word (codes "ideal") ∷ [])
@@ -338,7 +326,7 @@ module _ (s0 : State) (S : Session) (known : Contains primes S.prime) (some_vari
         (rest ++ x.0) ++ Sign closing ∷ [],
         _,
         subst (λ ws. IsStatement (bare S) (Word (codes "point") ∷ Word name ∷ Sign equals ∷ Sign opening ∷ ws) (declare (bare S) name (Point x.1) 0))
-        (ap (λ ws. ws ++ Sign closing ∷ []) (append_assoc us rest x.0) ∙ append_assoc us (rest ++ x.0) (Sign closing ∷ [])) (grammar.point (new_in_bare name new) x.2 x.3),
+            (ap (λ ws. ws ++ Sign closing ∷ []) (append_assoc us rest x.0) ∙ append_assoc us (rest ++ x.0) (Sign closing ∷ [])) (grammar.point (new_in_bare name new) x.2 x.3),
       )
 
   point_begins : MayStand (Some S) (Word (codes "point") ∷ [])

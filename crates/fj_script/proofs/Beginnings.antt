@@ -1,5 +1,5 @@
 -- What was read before a fault can go on: how far a line was read, and expressions.
-use Rattle.std.proofs.Common.{◌≡◌, ℕ, zero, suc, ◌+◌, ◌%◌, ◌^◌, ◌<◌, ◌≤◌, Bool, true, false, cond, eqb, leb, ltb, List, [], ◌∷◌, ◌++◌, length, map, Option, Some, None, Result, Ok, Err, refl, sym, ap, ap₂, ◌∙◌, subst, arith, append_assoc, inl, inr, ◌⊎◌}
+use Rattle.std.proofs.Common.{◌≡◌, ℕ, zero, suc, ◌≤◌, Bool, true, false, cond, eqb, ltb, List, [], ◌∷◌, ◌++◌, length, map, Option, Some, None, Result, Ok, Err, refl, sym, ap, ◌∙◌, subst, arith, append_assoc, inl, inr, ◌⊎◌}
 use Rattle.std.specs.FinMap.{empty}
 use Rattle.std.specs.Option.{option_map, option_map_or}
 use Rattle.std.proofs.lemmas.Bool.{eqb-true, leb-false, ltb-false}
@@ -7,12 +7,10 @@ use Rattle.std.proofs.lemmas.List.{append-nil, map-append}
 use Rattle.std.proofs.lemmas.Option.{same_Some}
 use Rattle.fj_coeff.specs.Field.{Field, IsField}
 use Rattle.fj_theory.specs.Exponents.{origin}
-use Rattle.fj_theory.specs.PointIdeal.{variable_exponents}
 use Rattle.fj_theory.specs.Polynomial.{Polynomial, IsPolynomial, negation, power, product, sum, term}
 use Rattle.fj_theory.proofs.Polynomial.{IsPolynomial-sum}
 use Rattle.fj_theory.proofs.Product.{IsPolynomial-product}
 use Rattle.fj_theory.proofs.PolynomialRing.{IsPolynomial-negation, IsPolynomial-power, power_first, power_zero, product_empty, product_one, sum_empty}
-use Rattle.fj_text.specs.declared.fault.Cause.TheVariants as causes
 use Rattle.fj_text.specs.declared.fault.Fault as faults
 use Rattle.fj_text.specs.declared.scope.Meaning.{Meaning}
 use Rattle.fj_text.specs.declared.scope.Meaning.TheVariants as meanings
@@ -21,7 +19,7 @@ use Rattle.fj_text.specs.Grammar as grammar
 use Rattle.fj_text.specs.Grammar.{IsAtom, IsExpression, IsFactor, IsTerm, IsWithinLimits}
 use Rattle.fj_text.specs.State.{State, after, after_sign, end_of, is_the_sign, next, unexpected}
 use Rattle.fj_text.specs.Token.{Token, Word, Number, Sign, BadByte, Placed, caret, closing, minus, opening, plus, star}
-use Rattle.fj_text.proofs.Grammars.{IsPolynomial-expression, IsPolynomial-factor, IsPolynomial-factors, power-small, within-small}
+use Rattle.fj_text.proofs.Grammars.{IsPolynomial-factor, power-small, within-small}
 use Rattle.fj_script.specs.LineFault.{◌>>=◌}
 use Rattle.fj_script.proofs.FineValues.{IsFine, fine_constant, fine_empty, fine_negation, fine_one, fine_variable, negation_empty, zero_is_empty}
 
@@ -148,9 +146,6 @@ module _ (s0 : State) (V : List Token → Type 0) where
         by (Some u) e = some u (sign_taken b t u H v e)
 
   -- ---- expressions
-
-  abbrev TextPlace : faults.Fault → ℕ
-  TextPlace e = e.place
 
   -- Again and again a turn, and each time what was read is such a value.
   repeat_reading : {A : Type 0} (turn : A → State → Option (text.Answer A)) (W : A → List Token → Type 0) (ts : List Token)

@@ -1,5 +1,5 @@
 -- Values of expressions that are within the limits, and how zero and one are multiplied and added.
-use Rattle.std.proofs.Common.{◌≡◌, ℕ, zero, suc, ◌+◌, ◌%◌, ◌<◌, ◌≤◌, Bool, true, false, cond, eqb, List, [], ◌∷◌, length, nat_cmp, Option, Some, None, unwrap_or, refl, sym, ap, ◌∙◌, subst, arith, inl, inr, ◌⊎◌}
+use Rattle.std.proofs.Common.{◌≡◌, ℕ, zero, suc, ◌+◌, ◌%◌, ◌<◌, ◌≤◌, Bool, true, false, cond, eqb, List, [], ◌∷◌, length, nat_cmp, Option, Some, None, unwrap_or, refl, sym, ap, ◌∙◌, subst, arith}
 use Rattle.std.specs.Cmp.Lexicographic.{slice_cmp}
 use Rattle.std.specs.FinMap.{contains_key, empty, entries, insert, len, len-empty, len-entries, len-insert}
 use Rattle.std.proofs.lemmas.List.{length-map}
@@ -9,14 +9,14 @@ use Rattle.fj_coeff.specs.Field.{Field, IsField}
 use Rattle.fj_coeff.specs.PrimeFieldLaws.{prime_bounds}
 use Rattle.fj_theory.specs.Exponents.{IsExponents, origin, total}
 use Rattle.fj_theory.specs.PointIdeal.{variable_exponents}
-use Rattle.fj_theory.specs.Polynomial.{Polynomial, IsPolynomial, coefficient, degree, negation, power, product, sum, support, term, with_coefficients}
+use Rattle.fj_theory.specs.Polynomial.{Polynomial, IsPolynomial, coefficient, degree, negation, support, term, with_coefficients}
 use Rattle.fj_theory.proofs.Degree.{degree_attained, degree_bounds, empty_from_degree}
 use Rattle.fj_theory.proofs.Exponents.{IsExponents-origin, total_origin}
 use Rattle.fj_theory.proofs.Field.{one_below, zero_below}
 use Rattle.fj_theory.proofs.FormalSum.{same, same_true}
 use Rattle.fj_theory.proofs.Monomial.{term_zero}
-use Rattle.fj_theory.proofs.Polynomial.{IsPolynomial-empty, IsPolynomial-sum, IsPolynomial-term, coefficient-empty, coefficient-term}
-use Rattle.fj_theory.proofs.PolynomialRing.{IsPolynomial-negation, coefficient-negation, neg_zero_rank, product_empty, product_one, sum_empty, sum_negation, sum_comm}
+use Rattle.fj_theory.proofs.Polynomial.{IsPolynomial-empty, IsPolynomial-term, coefficient-empty, coefficient-term}
+use Rattle.fj_theory.proofs.PolynomialRing.{IsPolynomial-negation, coefficient-negation, neg_zero_rank, sum_empty, sum_negation, sum_comm}
 use Rattle.fj_text.specs.Grammar.{IsWithinLimits}
 use Rattle.fj_script.proofs.AcceptedPolynomials.{variable_eight, variable_low}
 

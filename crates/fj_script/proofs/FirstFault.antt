@@ -1,13 +1,9 @@
 -- The fault of a session is the first.
-use Rattle.std.proofs.Common.{◌≡◌, ◌≢◌, ℕ, zero, suc, ◌+◌, ◌-◌, ◌<◌, ◌≤◌, Bool, true, false, cond, ltb, List, [], ◌∷◌, ◌++◌, length, map, get_or, take, drop, All, Option, Some, None, Result, Ok, Err, refl, sym, ap, ◌∙◌, subst, arith, add-zero, append_assoc, inl, inr, ◌⊎◌}
-use Rattle.std.specs.List.{filter}
-use Rattle.std.specs.Option.{option_map_or}
-use Rattle.std.proofs.lemmas.Bool.{le-ltb}
-use Rattle.std.proofs.lemmas.List.{append-nil, length-append, take-append-drop, take_all}
-use Rattle.fj_text.specs.State.{State, end_of, next, state_at, state_from}
+use Rattle.std.proofs.Common.{◌≡◌, ℕ, zero, suc, ◌+◌, ◌-◌, ◌<◌, ◌≤◌, List, [], ◌∷◌, ◌++◌, length, map, get_or, take, drop, All, Option, Some, None, Result, Ok, Err, refl, sym, ap, ◌∙◌, subst, arith, add-zero, append_assoc, inl, inr, ◌⊎◌}
+use Rattle.std.proofs.lemmas.List.{append-nil, length-append, take-append-drop}
+use Rattle.fj_text.specs.State.{end_of, next, state_at, state_from}
 use Rattle.fj_text.specs.Token.{Placed, tokens_from}
 use Rattle.fj_script.specs.declared.fault.Fault.{Fault}
-use Rattle.fj_script.specs.declared.fault.FaultKind.TheVariants as kinds
 use Rattle.fj_script.specs.declared.fault.LineFault.{LineFault}
 use Rattle.fj_script.specs.FirstFault.{AreSameBefore, AreSameThrough, HasStatements, StandsBehind, line_at, tokens_before, tokens_through}
 use Rattle.fj_script.specs.Grammar.{tokens_of}
@@ -17,7 +13,7 @@ use Rattle.fj_script.specs.Session.{Session}
 use Rattle.fj_script.specs.Statement.{line}
 use Rattle.fj_script.proofs.GrammarComplete.{line_skipped}
 use Rattle.fj_script.proofs.Scripts.{script_of_lines}
-use Rattle.fj_script.proofs.Rising.{AreRising, Parted, edge_here, edge_passed, end_above, first_high, high_all, line_rises, parted, rising_all, rising_behind, starts_before, starts_below}
+use Rattle.fj_script.proofs.Rising.{AreRising, Parted, edge_here, edge_passed, first_high, high_all, line_rises, parted, rising_all, rising_behind, starts_below}
 use Rattle.fj_script.proofs.TwoReadings.{line_along, line_from}
 use Rattle.fj_script.proofs.TwoRuns.{AlongStop, Any, AreBehindBoth, AreHigh, FirstHigh, IsEdge, Low, Stands, alike, faulty, fine, same, void, well}
 
@@ -240,9 +236,6 @@ module _ (bytes other : List ℕ) (place : Fault) (H : HasStatements bytes) (K :
 
   column_is : place.column ≡ first_place.found.column + 1
   column_is = ap (λ f. f.column) first_place.is
-
-  found_in : List ℕ → List ℕ
-  found_in text = get_or (lines text) first_place.count []
 
   -- an equation between the lines of the place
   of_lines : (f : ℕ → List ℕ → List Placed) → f place.column (line_at place.line bytes) ≡ f place.column (line_at place.line other)

@@ -1,11 +1,10 @@
 -- A session of the grammar is accepted.
-use Rattle.std.proofs.Common.{◌≡◌, ◌≢◌, ℕ, zero, suc, ◌+◌, ◌-◌, ◌*◌, ◌%◌, ◌^◌, ◌<◌, ◌≤◌, ◌==◌, Bool, true, false, cond, ◌||◌, ◌&&◌, IsTrue, eqb, leb, ltb, List, [], ◌∷◌, ◌++◌, length, map, get_or, sum, codes, All, AllPairs, Contains, Option, Some, None, Result, Ok, Err, refl, sym, ap, ◌∙◌, subst, arith, rules, add-zero, inl, inr, ◌⊎◌}
-use Rattle.std.specs.List.{slice_get, sum_by}
+use Rattle.std.proofs.Common.{◌≡◌, ◌≢◌, ℕ, suc, ◌+◌, ◌-◌, ◌%◌, ◌^◌, ◌<◌, ◌≤◌, ◌==◌, Bool, true, false, cond, ◌||◌, ◌&&◌, eqb, leb, ltb, List, [], ◌∷◌, ◌++◌, length, map, get_or, sum, codes, All, AllPairs, Contains, Option, Some, None, Ok, Err, refl, sym, ap, ◌∙◌, subst, arith, rules, add-zero, inl, inr}
+use Rattle.std.specs.List.{slice_get}
 use Rattle.std.specs.Option.{is_some, option_and_then, option_map, option_map_or}
 use Rattle.std.specs.Str.{bytes_eq}
-use Rattle.std.proofs.lemmas.Bool.{cases_eq, cases_lt, false_from_ne_true, le-ltb, lt-leb, ne_eqb}
+use Rattle.std.proofs.lemmas.Bool.{cases_lt, false_from_ne_true, le-ltb, lt-leb, ne_eqb}
 use Rattle.std.proofs.lemmas.List.{append-nil, get_or-append-add, get_or-map, get_or_append_left, length-append, map-append}
-use Rattle.std.proofs.lemmas.List.Elements.{All-nil}
 use Rattle.std.proofs.lemmas.List.Folds.{list_any_at}
 use Rattle.std.proofs.lemmas.List.Sums.{sum_by-append, sum_by-cons}
 use Rattle.std.proofs.lemmas.Option.{get_or_from_slice_get, slice_get-map, slice_get_within}
@@ -13,14 +12,11 @@ use Rattle.std.proofs.lemmas.Slice.Eq.{bytes_eq-Decides}
 use Rattle.std.proofs.Math.Nat.{pow-le-pow_left}
 use Rattle.std.proofs.Math.Pow.{pow-lt}
 use Rattle.fj_coeff.specs.Field.{primes}
-use Rattle.fj_coeff.specs.PrimeField.{prime_field}
 use Rattle.fj_coeff.specs.PrimeFieldLaws.{IsField-prime_field, prime_bounds}
 use Rattle.fj_theory.specs.Fraction.{Fraction}
-use Rattle.fj_theory.specs.Polynomial.{Polynomial}
 use Rattle.fj_plain.specs.declared.order_name.OrderName.TheVariants as orders
-use Rattle.fj_text.specs.Expression as text
 use Rattle.fj_text.specs.Grammar.{AreBehind, tokens_left}
-use Rattle.fj_text.specs.State.{State, after_sign, next, state_at}
+use Rattle.fj_text.specs.State.{State, state_at}
 use Rattle.fj_text.specs.Token.{Token, Word, Number, Sign, closing, minus, opening}
 use Rattle.fj_text.specs.Word.{place_of}
 use Rattle.fj_text.proofs.Completeness.{NotFirst, expression-complete, next-tokens, sign-not, sign-read}
@@ -31,10 +27,8 @@ use Rattle.fj_script.specs.declared.ask.OneIdeal.TheVariants as ones
 use Rattle.fj_script.specs.declared.ask.TwoIdeals.TheVariants as twos
 use Rattle.fj_script.specs.declared.ask.Frobenius.TheVariants as frobenius
 use Rattle.fj_script.specs.declared.ask.TestIdeal.TheVariants as tests
-use Rattle.fj_script.specs.declared.fault.Fault.{Fault}
 use Rattle.fj_script.specs.declared.fault.FaultKind.{FaultKind}
 use Rattle.fj_script.specs.declared.fault.FaultKind.TheVariants as faults
-use Rattle.fj_script.specs.declared.fault.LineFault.{LineFault}
 use Rattle.fj_script.specs.declared.question.Question.{Question}
 use Rattle.fj_script.specs.declared.question.Question.TheVariants as questions
 use Rattle.fj_script.specs.declared.statement.Keyword.{Keyword}
@@ -44,8 +38,8 @@ use Rattle.fj_script.specs.declared.value.Kind.TheVariants as kinds
 use Rattle.fj_script.specs.Declaration as declaration
 use Rattle.fj_script.specs.Grammar as grammar
 use Rattle.fj_script.specs.Grammar.{AreListed, AreSession, AreStatements, HasTerms, IsCoordinate, IsExponent, IsLevel, IsNew, IsQuestion, IsRatio, IsRing, IsSession, IsStatement, IsVariable, NamesIdeal, NamesNonconstant, NamesPoint, NamesPolynomial, tokens_of}
-use Rattle.fj_script.specs.Items.{at_end, comma, enclosed, equals, listed, narrow, sign, slash, word, word_of}
-use Rattle.fj_script.specs.LineFault.{Answer, ◌>>=◌, fault_at, not_here}
+use Rattle.fj_script.specs.Items.{at_end, comma, equals, listed, narrow, slash, word_of}
+use Rattle.fj_script.specs.LineFault.{◌>>=◌, fault_at}
 use Rattle.fj_script.specs.Names as names
 use Rattle.fj_script.specs.Numbers as numbers
 use Rattle.fj_script.specs.Question as question
@@ -53,7 +47,7 @@ use Rattle.fj_script.specs.Ring as rings
 use Rattle.fj_script.specs.Script as script
 use Rattle.fj_script.specs.Session.{Session, Terms, Value, Poly, Ideal, Point, ask, declare, is_nonconstant, kind, new_session, terms_in}
 use Rattle.fj_script.specs.Statement as statements
-use Rattle.fj_script.proofs.GrammarSound.{IsKnown, IsNext, ask_word, keyword_word, known_next, line_tokens}
+use Rattle.fj_script.proofs.GrammarSound.{ask_word, keyword_word, line_tokens}
 use Rattle.fj_script.proofs.GrammarTokens.{IsRead, behind_closing, done, enclosed_read, end_is, listed_read, narrow_read, next_read, no_next, number_read, otherwise_read, sign_is, then_is, then_read, word_read}
 use Rattle.fj_script.proofs.Meanings.{expression_along, in_session}
 use Rattle.fj_script.proofs.NewNames.{pairs_more}

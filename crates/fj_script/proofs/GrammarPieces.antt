@@ -1,61 +1,34 @@
 -- Numbers, fractions and names that were read are those of the grammar.
-use Rattle.std.proofs.Common.{◌≡◌, ◌≢◌, ℕ, zero, suc, ◌+◌, ◌*◌, ◌-◌, ◌%◌, ◌^◌, ◌<◌, ◌≤◌, ◌==◌, Bool, true, false, cond, ◌||◌, ◌&&◌, not, IsTrue, leb, ltb, nat_lt, eqb, List, [], ◌∷◌, ◌++◌, length, map, get_or, sum, codes, All, AllPairs, Contains, Option, Some, None, Result, Ok, Err, refl, sym, ap, ap₂, ◌∙◌, subst, arith}
+use Rattle.std.proofs.Common.{◌≡◌, ℕ, zero, suc, ◌*◌, ◌^◌, ◌<◌, ◌≤◌, Bool, true, false, cond, ◌||◌, ◌&&◌, not, leb, ltb, eqb, List, [], ◌∷◌, ◌++◌, length, get_or, Option, Some, None, Ok, Err, refl, sym, ap, ◌∙◌, subst, arith}
 use Rattle.std.specs.List.{slice_get}
 use Rattle.std.specs.Option.{is_some, option_and_then, option_map, option_map_or}
 use Rattle.std.specs.Str.{bytes_eq}
-use Rattle.std.proofs.lemmas.Bool.{eqb-true, leb-false, ltb-false}
-use Rattle.std.proofs.lemmas.List.{append-nil, get_or-map, length-append}
+use Rattle.std.proofs.lemmas.Bool.{leb-false, ltb-false}
+use Rattle.std.proofs.lemmas.List.{get_or-map}
 use Rattle.std.proofs.lemmas.List.Quantifiers.{position-Some}
 use Rattle.std.proofs.lemmas.Option.{get_or_from_slice_get, none-some, same_Some, slice_get-map}
 use Rattle.std.proofs.lemmas.Slice.Eq.{bytes_eq-Decides}
-use Rattle.fj_coeff.specs.Field.{Field, primes}
-use Rattle.fj_coeff.specs.PrimeField.{prime_field}
-use Rattle.fj_coeff.specs.PrimeFieldLaws.{IsField-prime_field}
 use Rattle.fj_theory.specs.Fraction.{Fraction}
-use Rattle.fj_theory.specs.MonomialOrder.{grevlex_key}
-use Rattle.fj_theory.specs.Polynomial.{Polynomial, terms_falling}
-use Rattle.fj_text.specs.declared.scope.Meaning.{Meaning}
-use Rattle.fj_text.specs.declared.scope.Meaning.TheVariants as meanings
-use Rattle.fj_text.specs.Expression as text
-use Rattle.fj_text.specs.Grammar as expressions
-use Rattle.fj_text.specs.Grammar.{IsAtom, IsExpression, IsFactor, IsTerm, tokens_left}
-use Rattle.fj_text.specs.Reading.{meaning_among, meaning_at}
-use Rattle.fj_text.specs.State.{State, after_sign, next}
-use Rattle.fj_text.specs.Token.{Token, Word, Number, Sign, BadByte, minus, opening, closing}
+use Rattle.fj_text.specs.Grammar.{tokens_left}
+use Rattle.fj_text.specs.State.{State}
+use Rattle.fj_text.specs.Token.{Token, Word, Number, Sign}
 use Rattle.fj_text.specs.Word.{place_of}
-use Rattle.fj_text.proofs.Soundness.{expression-sound}
-use Rattle.fj_script.specs.declared.ask.Ask.{Ask}
-use Rattle.fj_script.specs.declared.ask.Ask.TheVariants as asks
-use Rattle.fj_script.specs.declared.ask.OneIdeal.{OneIdeal}
-use Rattle.fj_script.specs.declared.ask.OneIdeal.TheVariants as ones
-use Rattle.fj_script.specs.declared.ask.TwoIdeals.{TwoIdeals}
-use Rattle.fj_script.specs.declared.ask.TwoIdeals.TheVariants as twos
-use Rattle.fj_script.specs.declared.ask.Frobenius.{Frobenius}
-use Rattle.fj_script.specs.declared.ask.Frobenius.TheVariants as frobenius
-use Rattle.fj_script.specs.declared.ask.TestIdeal.{TestIdeal}
-use Rattle.fj_script.specs.declared.ask.TestIdeal.TheVariants as tests
 use Rattle.fj_script.specs.declared.fault.FaultKind.{FaultKind}
 use Rattle.fj_script.specs.declared.fault.FaultKind.TheVariants as faults
 use Rattle.fj_script.specs.declared.fault.LineFault.{LineFault}
-use Rattle.fj_script.specs.declared.question.Question.{Question}
-use Rattle.fj_script.specs.declared.question.Question.TheVariants as questions
 use Rattle.fj_script.specs.declared.value.Kind.{Kind}
 use Rattle.fj_script.specs.declared.value.Kind.TheVariants as kinds
-use Rattle.fj_script.specs.Declaration as declaration
 use Rattle.fj_script.specs.Grammar as grammar
 use Rattle.fj_script.specs.Grammar.{AreListed, HasTerms, IsCoordinate, IsExponent, IsLevel, IsNew, IsQuestion, IsRatio, IsRing, IsVariable, NamesIdeal, NamesNonconstant, NamesPoint, NamesPolynomial}
-use Rattle.fj_script.specs.Items.{at_end, comma, enclosed, equals, listed, narrow, number, sign, slash, word, word_of}
-use Rattle.fj_script.specs.LineFault.{Answer, ◌>>=◌, fault_at}
+use Rattle.fj_script.specs.Items.{narrow, slash, word, word_of}
+use Rattle.fj_script.specs.LineFault.{Answer, fault_at}
 use Rattle.fj_script.specs.Names as names
 use Rattle.fj_script.specs.Numbers as numbers
-use Rattle.fj_script.specs.Question as question
-use Rattle.fj_script.specs.Ring as rings
-use Rattle.fj_script.specs.Session.{Session, Terms, Value, Poly, Ideal, Point, ask, declare, is_nonconstant, kind, new_session, terms_in}
+use Rattle.fj_script.specs.Session.{Session, Value, Poly, Ideal, Point, is_nonconstant, kind}
 use Rattle.fj_script.proofs.AcceptedDeclarations.{yields_then}
-use Rattle.fj_script.proofs.AcceptedPrimes.{prime_listed}
 use Rattle.fj_script.proofs.AcceptedYields.{Yields, yields_if, yields_option}
-use Rattle.fj_script.proofs.GrammarTokens.{Takes, end_takes, enclosed_takes, listed_takes, narrow_takes, number_takes, on_next, on_sign, sign_takes, word_of_takes, word_takes}
-use Rattle.fj_script.proofs.NewNames.{pairs_more, unlike}
+use Rattle.fj_script.proofs.GrammarTokens.{Takes, narrow_takes, on_next, on_sign, word_of_takes, word_takes}
+use Rattle.fj_script.proofs.NewNames.{unlike}
 use Rattle.fj_script.proofs.Ratios.{Reduced, of_form, over_zero, reduced}
 
 pub neither : (a b : Bool) → (a || b) ≡ false → (a ≡ false) × (b ≡ false)
@@ -160,12 +133,14 @@ new_name_takes S s =
     (λ w h. yields_if Goal (names.is_variable S w.0 || is_some (place_of (names.declared_names S.values) w.0)) _ _ (λ _. tt)
     (λ e. yields_if Goal (leb 4096 (length S.values)) _ _ (λ _. tt)
     (λ few.
-    let both = neither (names.is_variable S w.0) (is_some (place_of (names.declared_names S.values) w.0)) e in
-    (h, record {
-      no_variable = λ i d inside. unlike w.0 S.variables (nothing_found _ both.0) i d inside;
-      not_declared = λ i d inside same. unlike w.0 (names.declared_names S.values) (nothing_found _ both.1) i [] (omega (arith, names_of S.values, inside)) (get_or-map (λ v. v.0) S.values i d [] inside ∙ same);
-      few = leb-false _ _ few;
-    }))))
+    let both = neither (names.is_variable S w.0) (is_some (place_of (names.declared_names S.values) w.0)) e in (
+      h,
+      record {
+        no_variable = λ i d inside. unlike w.0 S.variables (nothing_found _ both.0) i d inside;
+        not_declared = λ i d inside same. unlike w.0 (names.declared_names S.values) (nothing_found _ both.1) i [] (omega (arith, names_of S.values, inside)) (get_or-map (λ v. v.0) S.values i d [] inside ∙ same);
+        few = leb-false _ _ few;
+      },
+    ))))
   where
     Goal : List ℕ × State → Type 0
     Goal w = (tokens_left s ≡ Word w.0 ∷ tokens_left w.1) × IsNew S w.0

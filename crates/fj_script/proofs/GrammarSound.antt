@@ -1,11 +1,9 @@
 -- An accepted session is one of the grammar.
-use Rattle.std.proofs.Common.{◌≡◌, ◌≢◌, ℕ, zero, suc, ◌+◌, ◌-◌, ◌%◌, ◌^◌, ◌<◌, ◌≤◌, Bool, true, false, cond, leb, ltb, List, [], ◌∷◌, ◌++◌, length, map, sum, codes, All, AllPairs, Contains, Option, Some, None, Result, Ok, Err, refl, sym, ap, ◌∙◌, subst, arith, zero-add, inl, inr, ◌⊎◌}
-use Rattle.std.specs.List.{sum_by}
-use Rattle.std.specs.Option.{is_some, option_map_or}
+use Rattle.std.proofs.Common.{◌≡◌, ◌≢◌, ℕ, zero, ◌+◌, ◌^◌, ◌<◌, ◌≤◌, Bool, true, false, cond, leb, ltb, List, [], ◌∷◌, ◌++◌, length, map, sum, codes, AllPairs, Contains, Option, Some, None, Result, Ok, Err, refl, sym, ap, ◌∙◌, subst, arith, zero-add, inl, inr, ◌⊎◌}
+use Rattle.std.specs.Option.{is_some}
 use Rattle.std.specs.Str.{bytes_eq}
 use Rattle.std.proofs.lemmas.Bool.{leb-false, ltb-false}
 use Rattle.std.proofs.lemmas.List.{append-nil, length-append, map-append}
-use Rattle.std.proofs.lemmas.List.Elements.{All-nil}
 use Rattle.std.proofs.lemmas.List.Sums.{sum_by-append}
 use Rattle.std.proofs.lemmas.Option.{none-some, same_Some}
 use Rattle.std.proofs.lemmas.Slice.Eq.{bytes_eq-Decides}
@@ -18,7 +16,7 @@ use Rattle.fj_plain.specs.declared.order_name.OrderName.{OrderName}
 use Rattle.fj_plain.specs.declared.order_name.OrderName.TheVariants as orders
 use Rattle.fj_text.specs.Expression as text
 use Rattle.fj_text.specs.Grammar.{tokens_left}
-use Rattle.fj_text.specs.State.{State, after_sign, next, state_at, state_from}
+use Rattle.fj_text.specs.State.{State, state_at, state_from}
 use Rattle.fj_text.specs.Token.{Token, Word, Number, Sign, Placed, closing, minus, opening, tokens_from}
 use Rattle.fj_text.specs.Word.{place_of}
 use Rattle.fj_text.proofs.Soundness.{expression-sound}
@@ -43,7 +41,7 @@ use Rattle.fj_script.specs.declared.value.Kind.TheVariants as kinds
 use Rattle.fj_script.specs.Declaration as declaration
 use Rattle.fj_script.specs.Grammar as grammar
 use Rattle.fj_script.specs.Grammar.{AreListed, AreSession, AreStatements, HasTerms, IsCoordinate, IsLevel, IsNew, IsQuestion, IsRatio, IsRing, IsSession, IsStatement, IsVariable, NamesIdeal, NamesNonconstant, NamesPoint, NamesPolynomial, tokens_of}
-use Rattle.fj_script.specs.Items.{at_end, enclosed, equals, listed, narrow, sign, word, word_of}
+use Rattle.fj_script.specs.Items.{enclosed, equals, listed, narrow, sign, word, word_of}
 use Rattle.fj_script.specs.LineFault.{Answer, ◌>>=◌}
 use Rattle.fj_script.specs.Names as names
 use Rattle.fj_script.specs.Numbers as numbers
@@ -51,7 +49,7 @@ use Rattle.fj_script.specs.Question as question
 use Rattle.fj_script.specs.Question.{Target}
 use Rattle.fj_script.specs.Ring as rings
 use Rattle.fj_script.specs.Script as script
-use Rattle.fj_script.specs.Session.{Session, Terms, Value, Poly, Ideal, Point, ask, declare, kind, is_nonconstant, new_session, terms_in}
+use Rattle.fj_script.specs.Session.{Session, Terms, Poly, Ideal, Point, ask, declare, new_session, terms_in}
 use Rattle.fj_script.specs.Statement as statements
 use Rattle.fj_script.proofs.AcceptedDeclarations.{yields_then}
 use Rattle.fj_script.proofs.AcceptedPrimes.{prime_listed}

@@ -1,21 +1,20 @@
 -- What readings take, as tokens: what was read stood there, and what stands there is read.
-use Rattle.std.proofs.Common.{◌≡◌, ◌≢◌, ℕ, zero, suc, ◌^◌, ◌<◌, ◌≤◌, Bool, true, false, cond, List, [], ◌∷◌, ◌++◌, length, map, Option, Some, None, Result, Ok, Err, refl, sym, ap, ap₂, ◌∙◌, subst, arith, append_assoc}
+use Rattle.std.proofs.Common.{◌≡◌, ℕ, zero, suc, ◌^◌, ◌<◌, Bool, false, cond, List, [], ◌∷◌, ◌++◌, length, map, Option, Some, None, Result, Ok, Err, refl, sym, ap, ap₂, ◌∙◌, subst, arith, append_assoc}
 use Rattle.std.specs.Option.{option_map_or}
 use Rattle.std.proofs.lemmas.Bool.{leb-false, lt-leb}
 use Rattle.std.proofs.lemmas.List.{append-nil}
 use Rattle.std.proofs.lemmas.Option.{same_Some}
 use Rattle.fj_text.specs.Expression.{is_wide}
 use Rattle.fj_text.specs.Grammar.{AreBehind, tokens_left}
-use Rattle.fj_text.specs.State.{State, after, after_sign, next}
-use Rattle.fj_text.specs.Token.{Token, Word, Number, Sign, BadByte, Placed, caret, closing, minus, opening, plus, star}
+use Rattle.fj_text.specs.State.{State, after_sign, next}
+use Rattle.fj_text.specs.Token.{Token, Word, Number, Sign, BadByte, Placed, closing, opening}
 use Rattle.fj_text.proofs.Completeness.{NotFirst, fewer, next-tokens, sign-not, sign-read}
 use Rattle.fj_text.proofs.Soundness.{sign-tokens}
-use Rattle.fj_script.specs.declared.fault.FaultKind.TheVariants as kinds
 use Rattle.fj_script.specs.declared.fault.LineFault.{LineFault}
 use Rattle.fj_script.specs.Grammar as grammar
 use Rattle.fj_script.specs.Grammar.{AreListed}
 use Rattle.fj_script.specs.Items.{at_end, comma, enclosed, listed, more, narrow, number, number_of, sign, word, word_of}
-use Rattle.fj_script.specs.LineFault.{Answer, ◌>>=◌, fault_at, not_here}
+use Rattle.fj_script.specs.LineFault.{Answer, ◌>>=◌, not_here}
 use Rattle.fj_script.proofs.AcceptedDeclarations.{yields_then}
 use Rattle.fj_script.proofs.AcceptedYields.{Yields, yields_if, yields_option}
 use Rattle.fj_script.proofs.More.{GoesOn, list_begins, list_goes, list_stops}

@@ -3,7 +3,6 @@ use Rattle.std.proofs.Common.{◌≡◌, ℕ, zero, suc, ◌+◌, ◌%◌, ◌^�
 use Rattle.std.specs.Option.{is_some, option_map, option_map_or}
 use Rattle.fj_coeff.specs.Field.{Field}
 use Rattle.fj_coeff.specs.PrimeField.{prime_field}
-use Rattle.fj_theory.specs.Fraction.{Fraction}
 use Rattle.fj_theory.specs.MonomialOrder.{grevlex_key}
 use Rattle.fj_theory.specs.Polynomial.{Polynomial, negation, product, sum, terms_falling}
 use Rattle.fj_text.specs.declared.fault.Cause.{Cause}
@@ -20,14 +19,13 @@ use Rattle.fj_script.specs.declared.ask.Ask.TheVariants as asks
 use Rattle.fj_script.specs.declared.fault.FaultKind.{FaultKind}
 use Rattle.fj_script.specs.declared.fault.FaultKind.TheVariants as kinds
 use Rattle.fj_script.specs.declared.fault.LineFault.{LineFault}
-use Rattle.fj_script.specs.declared.question.Question.{Question}
 use Rattle.fj_script.specs.declared.question.Question.TheVariants as questions
 use Rattle.fj_script.specs.declared.statement.Keyword.{Keyword}
 use Rattle.fj_script.specs.declared.statement.Keyword.TheVariants as keywords
 use Rattle.fj_script.specs.declared.value.Kind.{Kind}
 use Rattle.fj_script.specs.declared.value.Kind.TheVariants as values
 use Rattle.fj_script.specs.Declaration as declaration
-use Rattle.fj_script.specs.Items.{at_end, comma, enclosed, equals, listed, narrow, number, number_of, sign, slash, taking, word, word_of}
+use Rattle.fj_script.specs.Items.{at_end, enclosed, equals, listed, narrow, number, number_of, slash, taking, word, word_of}
 use Rattle.fj_script.specs.LineFault.{Answer, ◌>>=◌, fault_at, not_here}
 use Rattle.fj_script.specs.Names as names
 use Rattle.fj_script.specs.Numbers as numbers
@@ -35,7 +33,7 @@ use Rattle.fj_script.specs.Question as question
 use Rattle.fj_script.specs.Ring as rings
 use Rattle.fj_script.specs.Session.{Session, Terms, Poly, Ideal, Point, ask, declare, new_session, terms_in}
 use Rattle.fj_script.specs.Statement as statements
-use Rattle.fj_script.proofs.TwoRuns.{Agree, Along, AlongAnswer, AlongStop, Any, IsAhead, IsEdge, after_near, edge_ahead, stands_then, taken, AreBehindBoth, High, IsNear, IsReady, IsRule, IsStop, IsTurn, Low, Near, Stands, alike, choice_rule, choice_stop, enclosed_rule, end_stop, fault_rule, fault_stop, faulty, fine, idle_rule, later_rule, later_stop, listed_rule, next_else, next_rule, no_turn_more, option_rule, option_stop, ready, repeat_rule, same, sign_else, sign_or, sign_then, sign_turn, stands_on, then_rule, then_stop, value_rule, void, well, wrong_rule}
+use Rattle.fj_script.proofs.TwoRuns.{AlongAnswer, AlongStop, Any, IsAhead, IsEdge, after_near, edge_ahead, stands_then, taken, AreBehindBoth, IsRule, IsStop, IsTurn, Low, Stands, alike, choice_rule, choice_stop, enclosed_rule, end_stop, fault_rule, fault_stop, faulty, fine, idle_rule, later_rule, later_stop, listed_rule, next_else, next_rule, no_turn_more, option_rule, option_stop, repeat_rule, same, sign_else, sign_or, sign_then, sign_turn, then_rule, then_stop, value_rule, void, well, wrong_rule}
 
 pub mapped : {X Y : Type 0} (f : X → Y) (o : Option X) → option_map_or (λ x. Some (f x)) o None ≡ option_map f o
 mapped f (Some x) = refl

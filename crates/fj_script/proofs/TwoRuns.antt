@@ -1,12 +1,12 @@
 -- Two lines that begin with the same tokens, and how they are read: alike as far as they are the same.
-use Rattle.std.proofs.Common.{◌≡◌, ℕ, zero, suc, ◌+◌, ◌<◌, ◌≤◌, Bool, true, false, cond, List, [], ◌∷◌, ◌++◌, length, All, Option, Some, None, Result, Ok, Err, refl, sym, ap, ◌∙◌, subst, arith, inl, inr, ◌⊎◌}
-use Rattle.std.specs.Option.{option_and_then, option_map, option_map_or}
+use Rattle.std.proofs.Common.{◌≡◌, ℕ, zero, suc, ◌<◌, ◌≤◌, Bool, true, false, cond, List, [], ◌∷◌, ◌++◌, length, All, Option, Some, None, Result, Ok, Err, refl, sym, ap, ◌∙◌, subst, arith, inl, inr, ◌⊎◌}
+use Rattle.std.specs.Option.{option_map_or}
 use Rattle.fj_text.specs.declared.fault.Fault as text
 use Rattle.fj_text.specs.Expression.{repeat}
 use Rattle.fj_text.specs.State.{State, after, after_sign, end_of, is_the_sign, next, unexpected}
-use Rattle.fj_text.specs.Token.{Token, Word, Number, Sign, BadByte, Placed}
+use Rattle.fj_text.specs.Token.{Token, Placed}
 use Rattle.fj_script.specs.declared.fault.LineFault.{LineFault}
-use Rattle.fj_script.specs.Items.{at_end, comma, enclosed, listed, more, sign}
+use Rattle.fj_script.specs.Items.{at_end, comma, listed, more, sign}
 use Rattle.fj_script.specs.LineFault.{Answer, ◌>>=◌, not_here}
 
 -- ---- what is said of columns
@@ -450,12 +450,6 @@ module _ (M : Type 0) (b c : ℕ) (r q : List Placed) where
     -- ---- lists with commas
 
     module _ {A : Type 0} (item : List A → State → Answer A) (each : (xs : List A) → IsRule (λ (e : LineFault). e.column) false false (item xs)) where
-      place_of_line : LineFault → ℕ
-      place_of_line e = e.column
-
-      Comma : ℕ → List A → State → Answer (List A)
-      Comma n xs t = item xs t >>= λ x. more item n (xs ++ x.0 ∷ []) x.1
-
       more_near : (P : ℕ → Type 0) → ((xs : List A) (s : State) → IsNear P s → Near (λ (e : LineFault). e.column) P (item xs s)) → (n : ℕ) (xs : List A) (s : State) → IsNear P s → Near (λ (e : LineFault). e.column) P (more item n xs s)
       unfolding more
       more_near P near zero xs s h = well h
@@ -523,9 +517,6 @@ module _ (M : Type 0) (b c : ℕ) (r q : List Placed) where
 
     -- ---- repeated turns of an expression
 
-    abbrev place_of_text : text.Fault → ℕ
-    place_of_text e = e.place
-
     abbrev TextAnswer : Type 0 → Type 0
     TextAnswer A = Result (A × State) text.Fault
 
@@ -582,9 +573,6 @@ module _ (M : Type 0) (b c : ℕ) (r q : List Placed) where
             test false = H.along _ _ (agree (x ∷ ts) start end h edge)
 
     module _ {A : Type 0} (turn : A → State → Option (TextAnswer A)) (each : (x : A) → IsTurn (turn x)) where
-      Then : ℕ → A × State → TextAnswer A
-      Then n x = repeat turn n x.0 x.1
-
       repeat_near : (P : ℕ → Type 0) → ((x : A) (s : State) → IsNear P s → TurnNear P (turn x s)) → (n : ℕ) (x : A) (s : State) → IsNear P s → Near (λ (e : text.Fault). e.place) P (repeat turn n x s)
       unfolding repeat
       repeat_near P near zero x s h = well h

@@ -1,5 +1,5 @@
 -- What stands before the place of a fault could have gone on to a statement.
-use Rattle.std.specs.Prelude.{◌≡◌, ℕ, ◌-◌, ◌+◌, ◌↔◌, ◌⊎◌, List, [], ◌∷◌, ◌++◌, map, take, drop, length, All, Contains, Option, Some, None, Err, codes}
+use Rattle.std.specs.Prelude.{◌≡◌, ℕ, ◌-◌, ◌↔◌, ◌⊎◌, List, [], ◌∷◌, ◌++◌, map, take, drop, length, All, Contains, Option, Some, None, Err, codes}
 use Rattle.fj_text.specs.Token.{Token, Word, Number, Sign}
 use Rattle.fj_script.specs.declared.fault.Fault.{Fault}
 use Rattle.fj_script.specs.FirstFault.{HasStatements, line_at, tokens_before}

@@ -13,7 +13,7 @@ use Rattle.fj_text.specs.Token.{Token, Word, Number, Sign, minus, opening, closi
 use Rattle.fj_script.specs.declared.question.Question.{Question}
 use Rattle.fj_script.specs.declared.question.Question.TheVariants as questions
 use Rattle.fj_script.specs.Items.{comma, equals, slash}
-use Rattle.fj_script.specs.Session.{Session, Terms, Value, Poly, Ideal, Point, ask, declare, is_nonconstant, new_session, terms_in}
+use Rattle.fj_script.specs.Session.{Session, Terms, Poly, Ideal, Point, ask, declare, is_nonconstant, new_session, terms_in}
 use Rattle.fj_script.specs.Script.{lines}
 
 -- Items with a comma between each two.
