@@ -43,7 +43,7 @@ at_support P {f} Q each =
 single : (P : List ℕ → Type 0) (a : List ℕ) → P a → All P (a ∷ [])
 single P a h = All-cons P a [] h (All-nil P)
 
-variable_low : (i : ℕ) → total (variable_exponents i) ≤ 1000
+pub variable_low : (i : ℕ) → total (variable_exponents i) ≤ 1000
 unfolding variable_exponents origin
 variable_low zero = omega arith
 variable_low (suc zero) = omega arith
@@ -71,7 +71,7 @@ pub or_false : (a b : Bool) → (a || b) ≡ false → b ≡ false
 or_false true b h = absurd (true≢false h)
 or_false false b h = h
 
-variable_eight : (i : ℕ) → IsExponents (variable_exponents i)
+pub variable_eight : (i : ℕ) → IsExponents (variable_exponents i)
 unfolding variable_exponents origin
 variable_eight i = record { eight = length-set origin i 1 }
 

@@ -28,7 +28,7 @@ module _ (word : List ℕ) where
 lt_or_le : (a b : ℕ) → (a < b) ⊎ (b ≤ a)
 lt_or_le a b = elim (cases_Bool (ltb a b)) [ inl h ↦ inl (ltb-true a b h) | inr h ↦ inr (ltb-false a b h) ]
 
-pairs_more : {X : Type 0} (R : X → X → Type 0) (xs : List X) (y : X) → AllPairs R xs → ((i : ℕ) (d : X) → i < length xs → R (get_or xs i d) y) → AllPairs R (xs ++ y ∷ [])
+pub pairs_more : {X : Type 0} (R : X → X → Type 0) (xs : List X) (y : X) → AllPairs R xs → ((i : ℕ) (d : X) → i < length xs → R (get_or xs i d) y) → AllPairs R (xs ++ y ∷ [])
 pairs_more {X} R xs y pairs last i j d less inside =
     let all = length-append xs (y ∷ []) in
     let left = get_or_append_left xs (y ∷ []) d i (omega (arith, all, less, inside)) in

@@ -50,12 +50,12 @@ fraction_is m zero positive = absurd (omega arith)
 fraction_is m (suc n) positive = ap (λ t. Some t) (same_fraction _ _ refl)
 
 -- m/n in lowest terms, where n isn't 0.
-record Reduced (m n : ℕ) (t : Fraction) : Type 0 where
+pub record Reduced (m n : ℕ) (t : Fraction) : Type 0 where
   pub is : lowest m n ≡ Some t
   pub form : IsLowestForm m n t
   pub below : t.numerator ≤ m
 
-reduced : (m n : ℕ) → 0 < n → (t : Fraction) × Reduced m n t
+pub reduced : (m n : ℕ) → 0 < n → (t : Fraction) × Reduced m n t
 unfolding lowest common_divisor
 reduced m n positive =
     let g = gcd_exists (suc n) m n (omega arith) in
@@ -77,7 +77,7 @@ reduced_is m n t positive form =
     subst (Reduced m n) (same_fraction r.0 t (λ i. (same.0 i, same.1 i))) r.1
 
 module _ (positive : Bool) (m n : ℕ) (s : State) where
-  of_form : (t : Fraction) → 0 < n → IsLowestForm m n t → ratio_of positive m n s ≡ (if is_exponent positive t then Ok (t, s) else Err (fault_at kinds.Range s))
+  pub of_form : (t : Fraction) → 0 < n → IsLowestForm m n t → ratio_of positive m n s ≡ (if is_exponent positive t then Ok (t, s) else Err (fault_at kinds.Range s))
   unfolding ratio_of
   of_form t above form = ap (λ o. option_map_or (λ t. if is_exponent positive t then Ok (t, s) else Err (fault_at kinds.Range s)) o (Err (fault_at kinds.Range s))) (reduced_is m n t above form).is
 
@@ -112,7 +112,7 @@ module _ (positive : Bool) (m n : ℕ) (s : State) where
       by false true = refl
       by false false = rw nothing refl
 
-  over_zero : n ≡ 0 → ratio_of positive m n s ≡ Err (fault_at kinds.Range s)
+  pub over_zero : n ≡ 0 → ratio_of positive m n s ≡ Err (fault_at kinds.Range s)
   unfolding ratio_of lowest common_divisor divisor_up_to
   over_zero e = rw e refl
 

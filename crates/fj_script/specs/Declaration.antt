@@ -1,5 +1,5 @@
 -- Declarations. A declared name is a name from the next line on.
-use Rattle.std.specs.Prelude.{◌≡◌, ℕ, ◌+◌, ◌-◌, ◌%◌, Bool, if◌then◌else◌, nat_le, nat_lt, List, [], ◌∷◌, length, Result, Ok, Err}
+use Rattle.std.specs.Prelude.{ℕ, ◌+◌, ◌-◌, ◌%◌, if◌then◌else◌, nat_le, nat_lt, List, length, Result, Ok, Err}
 use Rattle.std.specs.Option.{option_map_or}
 use Rattle.fj_coeff.specs.PrimeField.{prime_field}
 use Rattle.fj_theory.specs.MonomialOrder.{grevlex_key}
@@ -11,7 +11,7 @@ use Rattle.fj_script.specs.declared.fault.FaultKind.TheVariants as kinds
 use Rattle.fj_script.specs.declared.fault.LineFault.{LineFault}
 use Rattle.fj_script.specs.LineFault.{Answer, ◌>>=◌, fault_at, fault_of}
 use Rattle.fj_script.specs.Items.{at_end, enclosed, equals, listed, narrow, sign}
-use Rattle.fj_script.specs.Session.{Session, Terms, Value, Poly, Ideal, Point, declare, terms_in}
+use Rattle.fj_script.specs.Session.{Session, Terms, Poly, Ideal, Point, declare, terms_in}
 use Rattle.fj_script.specs.Names.{meaning, new_name}
 
 -- What an expression answers, in a line of a session.

@@ -1,6 +1,5 @@
 -- What statements are made of: words, numbers, signs, lists with commas, and the end of the line.
-use Rattle.std.specs.Prelude.{◌≡◌, ℕ, zero, suc, if◌then◌else◌, List, [], ◌∷◌, ◌++◌, length, Result, Ok, Err, Some, None}
-use Rattle.std.specs.declared.option.Option.{Option}
+use Rattle.std.specs.Prelude.{ℕ, zero, suc, if◌then◌else◌, List, [], ◌∷◌, ◌++◌, length, Result, Ok, Err}
 use Rattle.std.specs.Option.{option_map_or}
 use Rattle.fj_text.specs.Token.{Token, Word, Number, Sign, BadByte, opening, closing}
 use Rattle.fj_text.specs.State.{State, after_sign, next}

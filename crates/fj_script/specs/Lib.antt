@@ -13,3 +13,7 @@ pub mod Refusals
 pub mod Taken
 pub mod Limits
 pub mod Lines
+pub mod Grammar
+pub mod GrammarLaws
+pub mod FirstFault
+pub mod Beginning

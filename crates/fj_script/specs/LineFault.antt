@@ -1,5 +1,5 @@
 -- What is read of a line, and the first fault of a line.
-use Rattle.std.specs.Prelude.{◌≡◌, ℕ, Result, Ok, Err}
+use Rattle.std.specs.Prelude.{Result, Ok, Err}
 use Rattle.fj_text.specs.declared.fault.Cause.{Cause}
 use Rattle.fj_text.specs.declared.fault.Cause.TheVariants as causes
 use Rattle.fj_text.specs.declared.fault.Fault as text

@@ -1,5 +1,5 @@
 -- The names of a session: variables, and declared names. No word is reserved.
-use Rattle.std.specs.Prelude.{ℕ, Bool, ◌||◌, nat_le, if◌then◌else◌, List, length, map, slice_get, Result, Ok, Err, Some, None}
+use Rattle.std.specs.Prelude.{ℕ, Bool, ◌||◌, nat_le, if◌then◌else◌, List, length, map, slice_get, Ok, Err, Some, None}
 use Rattle.std.specs.declared.option.Option.{Option}
 use Rattle.std.specs.Option.{is_some, option_map, option_map_or, option_and_then}
 use Rattle.fj_text.specs.declared.scope.Meaning.{Meaning}

@@ -1,5 +1,5 @@
 -- A whole session: its script, or its first fault.
-use Rattle.std.specs.Prelude.{◌≡◌, ℕ, ◌+◌, ◌==◌, if◌then◌else◌, nat_lt, List, [], ◌∷◌, length, Result, Ok, Err, Some, None}
+use Rattle.std.specs.Prelude.{ℕ, ◌+◌, ◌==◌, if◌then◌else◌, nat_lt, List, [], ◌∷◌, length, Result, Ok, Err, Some, None}
 use Rattle.std.specs.declared.option.Option.{Option}
 use Rattle.fj_script.specs.declared.fault.Fault.{Fault}
 use Rattle.fj_script.specs.declared.fault.FaultKind.TheVariants as kinds

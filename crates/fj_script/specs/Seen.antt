@@ -1,6 +1,5 @@
 -- How the code's answers and values are seen.
-use Rattle.std.specs.Prelude.{◌≡◌, ℕ, List, map, Result, Ok, Err, Some, None}
-use Rattle.std.specs.declared.option.Option.{Option}
+use Rattle.std.specs.Prelude.{◌≡◌, ℕ, List, map, Result, Ok, Err}
 use Rattle.fj_theory.specs.Plain.{PlainPolynomial}
 use Rattle.fj_text.specs.State.{State}
 use Rattle.fj_script.specs.declared.fault.Fault.{Fault}
@@ -11,7 +10,6 @@ use Rattle.fj_script.specs.declared.fault.ScriptFault.{ScriptFault}
 use Rattle.fj_script.specs.declared.fault.ScriptFault.TheVariants as faults
 use Rattle.fj_script.specs.declared.value.Value as code
 use Rattle.fj_script.specs.declared.value.Value.TheVariants as values
-use Rattle.fj_script.specs.declared.script.Env.{Env}
 use Rattle.fj_script.specs.declared.script.Script.{Script}
 use Rattle.fj_script.specs.LineFault.{Answer}
 use Rattle.fj_script.specs.Session.{Session, Terms, Value, Poly, Ideal, Point}

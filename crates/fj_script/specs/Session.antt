@@ -1,5 +1,5 @@
 -- A session as far as it is read.
-use Rattle.std.specs.Prelude.{ℕ, ◌+◌, ◌<◌, Bool, if◌then◌else◌, nat_lt, List, [], ◌∷◌, ◌++◌, length, map, sum}
+use Rattle.std.specs.Prelude.{ℕ, ◌+◌, Bool, if◌then◌else◌, nat_lt, List, [], ◌∷◌, ◌++◌, length, map, sum}
 use Rattle.std.specs.List.{list_any}
 use Rattle.fj_theory.specs.Exponents.{total}
 use Rattle.fj_plain.specs.declared.order_name.OrderName.{OrderName}

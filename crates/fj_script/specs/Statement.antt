@@ -1,17 +1,17 @@
 -- Statements: what a line does to a session.
-use Rattle.std.specs.Prelude.{◌≡◌, ℕ, ◌+◌, Bool, ◌||◌, if◌then◌else◌, nat_le, List, length, Result, Ok, Err, Some, None, codes}
+use Rattle.std.specs.Prelude.{ℕ, if◌then◌else◌, nat_le, List, length, Result, Ok, Err, Some, None, codes}
 use Rattle.std.specs.declared.option.Option.{Option}
 use Rattle.std.specs.Option.{option_map_or}
 use Rattle.std.specs.Str.{bytes_eq}
 use Rattle.fj_plain.specs.declared.order_name.OrderName.{OrderName}
 use Rattle.fj_plain.specs.declared.order_name.OrderName.TheVariants as orders
-use Rattle.fj_text.specs.Token.{Token, Word, Number, Sign, BadByte}
+use Rattle.fj_text.specs.Token.{Token}
 use Rattle.fj_text.specs.State.{State, next, state_at}
 use Rattle.fj_script.specs.declared.fault.FaultKind.TheVariants as kinds
 use Rattle.fj_script.specs.declared.fault.LineFault.{LineFault}
 use Rattle.fj_script.specs.declared.statement.Keyword.{Keyword}
 use Rattle.fj_script.specs.declared.statement.Keyword.TheVariants as keywords
-use Rattle.fj_script.specs.LineFault.{Answer, ◌>>=◌, fault_at}
+use Rattle.fj_script.specs.LineFault.{◌>>=◌, fault_at}
 use Rattle.fj_script.specs.Items.{at_end, word, word_of}
 use Rattle.fj_script.specs.Session.{Session, ask}
 use Rattle.fj_script.specs.Ring.{ring}

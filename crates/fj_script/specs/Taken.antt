@@ -1,6 +1,5 @@
 -- How the taking of a sign and the end of a line are seen.
 use Rattle.std.specs.Prelude.{◌≡◌, Result, Ok, Err, None}
-use Rattle.std.specs.declared.option.Option.{Option}
 use Rattle.std.specs.Option.{IsSome}
 use Rattle.fj_text.specs.State.{State, next}
 use Rattle.fj_script.specs.declared.fault.LineFault.{LineFault}

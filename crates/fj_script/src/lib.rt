@@ -5,6 +5,7 @@ mod ask;
 mod declaration;
 mod fault;
 mod items;
+pub mod laws;
 mod number;
 mod question;
 mod reading;

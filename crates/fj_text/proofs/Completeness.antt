@@ -37,7 +37,7 @@ behind-all (Number n ∷ ts) h = (tt, tt, tt, tt)
 behind-all (BadByte ∷ ts) h = (tt, tt, tt, tt)
 
 -- the first token is the next one
-next-tokens : (s : State) (tok : Token) (rest : List Token) → tokens_left s ≡ tok ∷ rest → (u : State) × (next s ≡ Some (tok, u)) × (tokens_left u ≡ rest)
+pub next-tokens : (s : State) (tok : Token) (rest : List Token) → tokens_left s ≡ tok ∷ rest → (u : State) × (next s ≡ Some (tok, u)) × (tokens_left u ≡ rest)
 unfolding next
 next-tokens s tok rest e = by s.left s.start s.end e
   where
@@ -49,7 +49,7 @@ next-tokens s tok rest e = by s.left s.start s.end e
         (after v vs, ap (λ t. Some (t, after v vs)) first, others)
 
 -- a sign that is first is taken
-sign-read : (sign : ℕ) (s : State) (rest : List Token) → tokens_left s ≡ Sign sign ∷ rest → (u : State) × (after_sign sign s ≡ Some u) × (tokens_left u ≡ rest)
+pub sign-read : (sign : ℕ) (s : State) (rest : List Token) → tokens_left s ≡ Sign sign ∷ rest → (u : State) × (after_sign sign s ≡ Some u) × (tokens_left u ≡ rest)
 unfolding after_sign
 sign-read sign s rest e =
     let x = next-tokens s (Sign sign) rest e in
@@ -59,7 +59,7 @@ sign-read sign s rest e =
     same n = search rules
 
 -- and one that isn't first is not
-sign-not : (sign : ℕ) (s : State) (ts : List Token) → tokens_left s ≡ ts → NotFirst sign ts → after_sign sign s ≡ None
+pub sign-not : (sign : ℕ) (s : State) (ts : List Token) → tokens_left s ≡ ts → NotFirst sign ts → after_sign sign s ≡ None
 unfolding after_sign next
 sign-not sign s ts e n = by s.left s.start s.end (subst (NotFirst sign) (sym e) n)
   where
@@ -74,7 +74,7 @@ sign-not sign s ts e n = by s.left s.start s.end (subst (NotFirst sign) (sym e) 
     by (v ∷ vs) start end h = of (after v vs) v.token (map (λ (w : Placed). w.token) vs) h
 
 -- what was taken is missing
-fewer : (s t : State) (tok : Token) (us rest : List Token) → tokens_left s ≡ tok ∷ us ++ rest → tokens_left t ≡ rest → length t.left < length s.left
+pub fewer : (s t : State) (tok : Token) (us rest : List Token) → tokens_left s ≡ tok ∷ us ++ rest → tokens_left t ≡ rest → length t.left < length s.left
 fewer s t tok us rest e h =
     let of_s = sym (length-map s.left (λ (v : Placed). v.token)) ∙ ap length e in
     let of_t = sym (length-map t.left (λ (v : Placed). v.token)) ∙ ap length h in
