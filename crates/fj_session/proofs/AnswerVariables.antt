@@ -1,19 +1,18 @@
 -- Nothing past the variables of the ring occurs in an answer.
-use Rattle.std.proofs.Common.{◌≡◌, ℕ, ◌≤◌, ◌^◌, ◌++◌, List, [], ◌∷◌, length, map, All, Contains, sym, ap, subst, refl}
+use Rattle.std.proofs.Common.{◌≡◌, ℕ, ◌^◌, ◌++◌, List, [], ◌∷◌, length, map, All, sym, subst, refl}
 use Rattle.std.proofs.lemmas.List.Elements.{All-head, All-map, All-nil, All-tail}
 use Rattle.fj_algebra.proofs.Lists.{All-map_back}
-use Rattle.fj_coeff.specs.Field.{Field, IsField, primes}
+use Rattle.fj_coeff.specs.Field.{Field, IsField}
 use Rattle.fj_coeff.specs.PrimeField.{prime_field}
 use Rattle.fj_coeff.specs.PrimeFieldLaws.{IsField-prime_field}
-use Rattle.fj_theory.specs.FrobeniusPower.{frobenius_power}
-use Rattle.fj_theory.specs.Ideal.{ArePolynomials, Equal, products}
+use Rattle.fj_theory.specs.Ideal.{ArePolynomials, Equal}
 use Rattle.fj_theory.specs.Plain.{polynomial}
 use Rattle.fj_theory.specs.PointIdeal.{UsesFirst}
 use Rattle.fj_theory.specs.Polynomial.{Polynomial, IsPolynomial}
 use Rattle.fj_theory.specs.Root.{IsRoot}
 use Rattle.fj_theory.proofs.FrobeniusPower.{ArePolynomials-frobenius_power}
 use Rattle.fj_theory.proofs.Ideal.{ArePolynomials-append, ArePolynomials-products, Equal-refl}
-use Rattle.fj_theory.proofs.IdealBridge.{ArePolynomials-head, ArePolynomials-nil, ArePolynomials-single, ArePolynomials-tail}
+use Rattle.fj_theory.proofs.IdealBridge.{ArePolynomials-head, ArePolynomials-single, ArePolynomials-tail}
 use Rattle.fj_theory.proofs.Lacking.{IsReducedBasis-UsesFirst}
 use Rattle.fj_theory.proofs.PartsExistence.{parts_of, IsParts-parts_of}
 use Rattle.fj_theory.proofs.Plain.{IsPolynomial-polynomial}
@@ -21,7 +20,6 @@ use Rattle.fj_theory.proofs.ReducedBasis.{IsReducedBasis-same_ideal}
 use Rattle.fj_theory.proofs.Root.{IsRoot-append, IsRoot-nil, IsRoot-unique}
 use Rattle.fj_theory.proofs.RootParts.{IsRoot-parts}
 use Rattle.fj_theory.proofs.UsesFirst.{UsesFirst-append, UsesFirst-frobenius_power, UsesFirst-parts, UsesFirst-products}
-use Rattle.fj_plain.specs.declared.order_name.OrderName.{OrderName}
 use Rattle.fj_script.specs.declared.question.Asked.{Asked}
 use Rattle.fj_script.specs.declared.question.Question.{Question}
 use Rattle.fj_script.specs.declared.question.Question.TheVariants as questions
@@ -32,7 +30,6 @@ use Rattle.fj_session.specs.Answer.{AnswerUsesFirst, IsAnswer}
 use Rattle.fj_session.specs.Asked.{AreOfOneSession, IsIdealAt, IsPolyAt}
 use Rattle.fj_session.specs.Named.{ideal_at, polynomial_at, polynomials}
 use Rattle.fj_session.specs.Statement.{AsksFor}
-use Rattle.fj_session.specs.Stop.{key_of}
 use Rattle.fj_session.proofs.Known.{basis_question, parts_question, power_question, prime_known, product_question, root_question, sum_question}
 use Rattle.fj_session.proofs.Printed.{key_of-IsMonomialOrder, polynomials_of_equal}
 use Rattle.fj_session.proofs.Variables.{rows_use_first}

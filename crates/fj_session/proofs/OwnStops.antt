@@ -1,5 +1,5 @@
 -- Stops of the runs that a question needs before its answer is printed.
-use Rattle.std.proofs.Common.{◌≡◌, ℕ, ◌∷◌, [], ◌++◌, List, Contains, Result, Ok, Err, IfErr, sym, subst, refl}
+use Rattle.std.proofs.Common.{◌≡◌, ℕ, ◌∷◌, [], List, Contains, Result, Ok, Err, IfErr, sym, subst, refl}
 use Rattle.std.specs.Result.{IsErrAnd}
 use Rattle.fj_coeff.specs.Field.{Field}
 use Rattle.fj_theory.specs.Ideal.{ArePolynomials, products}

@@ -1,5 +1,5 @@
 -- The ideal that a question asks for, in the printing order, and the stops of the question.
-use Rattle.std.proofs.Common.{◌≡◌, ◌≢◌, ℕ, List, All, Result, IfErr, IfOk, inl, inr, sym, subst, refl}
+use Rattle.std.proofs.Common.{◌≡◌, ◌≢◌, ℕ, List, Result, IfErr, IfOk, inl, inr, sym, subst, refl}
 use Rattle.std.specs.Result.{IsErrAnd}
 use Rattle.std.proofs.lemmas.List.Elements.{All-weaker}
 use Rattle.fj_coeff.specs.Field.{Field, IsField}
@@ -23,10 +23,10 @@ use Rattle.fj_script.specs.declared.script.Env.{Env}
 use Rattle.fj_session.specs.declared.types.Answer.{Answer}
 use Rattle.fj_session.specs.Answer.{IsAnswerOver}
 use Rattle.fj_session.specs.Named.{ideal_at}
-use Rattle.fj_session.specs.Outcome.{IsIdealFor, IsOwnStop, IsPrintStop, IsRunStop, IsShown, IsStopFor}
+use Rattle.fj_session.specs.Outcome.{IsIdealFor, IsOwnStop, IsPrintStop, IsShown, IsStopFor}
 use Rattle.fj_session.specs.Statement.{AsksFor, IsHighProductOf, IsListOf, IsOwnList}
 use Rattle.fj_session.specs.Stop.{key_of}
-use Rattle.fj_session.proofs.OwnStops.{own_handed_on, polynomials_of_list}
+use Rattle.fj_session.proofs.OwnStops.{polynomials_of_list}
 use Rattle.fj_session.proofs.Stops.{cause_of_more, err_of_more, handed_on}
 
 pub key_of-IsMonomialOrder : (order : OrderName) → IsMonomialOrder (key_of order)
@@ -54,7 +54,7 @@ module _ (F : Field) (env : Env) (asked : Asked) (question : Question) (is : ask
   own_stop_for s r told h =
       handed_on (IsOwnStop F env question asked.budget) (IsStopFor F env asked) s r
       (cause_of_more F asked.budget (λ o M. (o ≡ Grevlex) × IsOwnList F env question M) (IsListOf F env asked.question asked.order) (IsHighProductOf F env question) (IsHighProductOf F env asked.question)
-        (λ o M e. inl (e.0, subst (λ q. IsOwnList F env q M) (sym is) e.1)) (λ M e. subst (λ q. IsHighProductOf F env q M) (sym is) e))
+      (λ o M e. inl (e.0, subst (λ q. IsOwnList F env q M) (sym is) e.1)) (λ M e. subst (λ q. IsHighProductOf F env q M) (sym is) e))
       told h
 
   module _ (L : IsField F) {J : WithBasis} (I : IsIdealFor F env question J) where
@@ -70,8 +70,8 @@ module _ (F : Field) (env : Env) (asked : Asked) (question : Question) (is : ask
     print_stop_for r h =
         err_of_more (IsPrintStop F asked.order J.members asked.budget) (IsStopFor F env asked) r
         (cause_of_more F asked.budget (λ o M. (o ≡ asked.order) × (asked.order ≢ Grevlex) × (M ≡ J.members)) (IsListOf F env asked.question asked.order) (λ M. ⊥) (IsHighProductOf F env asked.question)
-          (λ o M e. inr (e.0, record { other = e.1; ideal = I.ideal; asked = asked_for; basis = subst (IsReducedBasis F grevlex_key I.ideal) (sym e.2) (basis_of_asked grevlex_key-IsMonomialOrder I.is_ideal.reduced) }))
-          (λ M e. absurd e))
+        (λ o M e. inr (e.0, record { other = e.1; ideal = I.ideal; asked = asked_for; basis = subst (IsReducedBasis F grevlex_key I.ideal) (sym e.2) (basis_of_asked grevlex_key-IsMonomialOrder I.is_ideal.reduced) }))
+        (λ M e. absurd e))
         h
 
     -- The answer that it is.

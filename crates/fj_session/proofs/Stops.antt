@@ -1,17 +1,16 @@
 -- Causes of stops, handed on.
-use Rattle.std.proofs.Common.{◌≡◌, ℕ, List, Result, Ok, Err, IfErr, map, sym, subst, refl}
+use Rattle.std.proofs.Common.{◌≡◌, ℕ, List, Result, Ok, Err, IfErr, sym, subst}
 use Rattle.std.specs.Result.{IsErrAnd}
 use Rattle.fj_coeff.specs.Field.{Field}
 use Rattle.fj_theory.specs.Polynomial.{Polynomial}
 use Rattle.fj_theory.specs.Run.{TooHigh, Unfinished}
 use Rattle.fj_plain.specs.declared.lists.Kept.{Kept}
 use Rattle.fj_plain.specs.declared.order_name.OrderName.{OrderName}
-use Rattle.fj_plain.specs.declared.order_name.OrderName.TheVariants.{Grevlex}
 use Rattle.fj_basis.specs.declared.stop.Stop.{Stop}
 use Rattle.fj_basis.specs.declared.stop.Stop.TheVariants.{Pairs, High, Product, Memory}
 use Rattle.fj_basis.specs.Outcome.{IsKeptOf, IsStopWhere}
 use Rattle.fj_session.specs.Named.{polynomials}
-use Rattle.fj_session.specs.Stop.{IsCauseOf, IsProductOf, IsTooHigh, IsUnfinished, key_of}
+use Rattle.fj_session.specs.Stop.{IsCauseOf, key_of}
 
 -- What holds of the list and the order of a run holds of what is kept.
 kept_as : {order : OrderName} {L : List Polynomial} {k : Kept} (P : OrderName → List Polynomial → Type 0) → IsKeptOf order L k → P order L → P k.order (polynomials k.list)

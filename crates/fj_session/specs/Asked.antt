@@ -7,7 +7,6 @@ use Rattle.fj_theory.specs.PointIdeal.{UsesFirst}
 use Rattle.fj_script.specs.declared.question.Asked.{Asked}
 use Rattle.fj_script.specs.declared.script.Env.{Env}
 use Rattle.fj_script.specs.declared.script.Script.{Script}
-use Rattle.fj_script.specs.declared.value.Value.{Value}
 use Rattle.fj_script.specs.declared.value.Value.TheVariants as values
 use Rattle.fj_script.specs.Script as session
 use Rattle.fj_script.specs.Seen.{IsReadingOf}
@@ -47,6 +46,3 @@ pub record IsPartsQuestion (env : Env) (e place : ℕ) : Type 0 where
   pub prime : Contains primes env.p
   pub small : e ≤ 12
   pub poly : IsPolyAt env place
-
-abbrev pub IsPoly : Value → Type 0
-IsPoly value = (f : PlainPolynomial) × (value ≡ values.Poly f)

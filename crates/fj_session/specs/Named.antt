@@ -1,5 +1,5 @@
 -- What the names of a session stand for, as polynomials and lists of polynomials.
-use Rattle.std.specs.Prelude.{ℕ, List, [], Option, Some, None, map, slice_get}
+use Rattle.std.specs.Prelude.{ℕ, List, [], Some, None, map, slice_get}
 use Rattle.std.specs.FinMap.{empty}
 use Rattle.fj_theory.specs.Plain.{PlainPolynomial, polynomial}
 use Rattle.fj_theory.specs.Polynomial.{Polynomial}

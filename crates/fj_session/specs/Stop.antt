@@ -1,5 +1,5 @@
 -- Why a question stops, and what it says then.
-use Rattle.std.specs.Prelude.{◌≡◌, ◌⊎◌, ℕ, List}
+use Rattle.std.specs.Prelude.{◌≡◌, ℕ, List}
 use Rattle.fj_coeff.specs.Field.{Field}
 use Rattle.fj_theory.specs.MonomialOrder.{elim_key, grevlex_key, grlex_key, lex_key}
 use Rattle.fj_theory.specs.Polynomial.{Polynomial}

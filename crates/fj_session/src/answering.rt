@@ -6,8 +6,8 @@ ghost use Rattle.fj_session.specs.Answer.{AnswerUsesFirst, IsAnswer, IsAnswerOve
 ghost use Rattle.fj_session.specs.Asked.{AreOfOneSession};
 ghost use Rattle.fj_session.specs.Outcome.{IsPrintStop, IsShown, IsStopFor};
 
-use super::named::polynomial_at;
 use super::ideals::{are_same, declared, frobenius_power, is_member, product, root, sum};
+use super::named::polynomial_at;
 use super::part_rows::part_rows;
 use super::shown::shown_basis;
 use super::types::Answer;
@@ -104,7 +104,11 @@ fn found<K: Coeff>(alloc: Global, env: &Env, asked: &Asked) -> Result<Answer, St
             shown(alloc, asked, &product::<K>(alloc, env, budget, j, k)?)
         }
         Question::Power { e, j } => {
-            shown(alloc, asked, &frobenius_power::<K>(alloc, env, budget, e, j)?)
+            shown(
+                alloc,
+                asked,
+                &frobenius_power::<K>(alloc, env, budget, e, j)?,
+            )
         }
         Question::Root { e, j } => shown(alloc, asked, &root::<K>(alloc, env, budget, e, j)?),
         _ => Ok(Answer::Later),

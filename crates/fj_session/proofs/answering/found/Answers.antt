@@ -1,5 +1,4 @@
-use Rattle.std.proofs.Common.{◌≡◌, inl, inr, sym, ◌∙◌, subst, refl}
-use Rattle.fj_plain.specs.declared.order_name.OrderName.{OrderName}
+use Rattle.std.proofs.Common.{refl}
 use Rattle.fj_script.specs.declared.question.Question.TheVariants as questions
 use Rattle.fj_session.specs.Named.{ideal_at}
 use Rattle.fj_session.proofs.Known.{basis_question, member_question, parts_question, power_question, product_question, root_question, same_question, sum_question}

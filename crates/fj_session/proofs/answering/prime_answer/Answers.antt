@@ -1,4 +1,4 @@
-use Rattle.std.proofs.Common.{◌≡◌, IfOk, sym, ap, subst}
+use Rattle.std.proofs.Common.{IfOk, sym, ap, subst}
 use Rattle.fj_coeff.specs.PrimeField.{prime_field}
 use Rattle.fj_session.specs.Answer.{IsAnswerOver}
 use Rattle.fj_session.proofs.Known.{prime_known}

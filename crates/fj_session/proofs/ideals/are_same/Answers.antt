@@ -1,6 +1,5 @@
-use Rattle.std.proofs.Common.{◌≡◌, ◌++◌, List, Some, inl, inr, sym, ap, ◌∙◌, subst, refl}
+use Rattle.std.proofs.Common.{◌≡◌, inl, inr, sym, subst, refl}
 use Rattle.std.specs.Prelude.{MatchOption}
-use Rattle.fj_theory.specs.MonomialOrder.{grevlex_key}
 use Rattle.fj_theory.specs.Ideal.{Equal}
 use Rattle.fj_theory.proofs.Ideal.{Equal-refl}
 use Rattle.fj_ideal.specs.Ideal.{IsIdealOf}

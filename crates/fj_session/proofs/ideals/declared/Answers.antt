@@ -1,7 +1,5 @@
-use Rattle.std.proofs.Common.{◌≡◌, All, List, sym, ap, ◌∙◌, subst, refl}
+use Rattle.std.proofs.Common.{◌≡◌, All, sym, ap, ◌∙◌, subst, refl}
 use Rattle.fj_theory.specs.Plain.{HasRanksBelow}
-use Rattle.fj_theory.specs.Polynomial.{Polynomial}
-use Rattle.fj_plain.specs.declared.order_name.OrderName.{OrderName}
 use Rattle.fj_plain.specs.declared.order_name.OrderName.TheVariants.{Grevlex}
 use Rattle.fj_session.specs.Named.{ideal_at}
 use Rattle.fj_session.proofs.Stops.{run_stops}

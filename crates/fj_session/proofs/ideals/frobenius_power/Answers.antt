@@ -1,8 +1,7 @@
-use Rattle.std.proofs.Common.{◌≡◌, ◌^◌, List, inl, inr, sym, ap, ◌∙◌, subst, refl}
+use Rattle.std.proofs.Common.{◌≡◌, ◌^◌, inl, inr, sym, ap, ◌∙◌, subst, refl}
 use Rattle.fj_text.proofs.Values.{if_ok}
 use Rattle.fj_theory.specs.FrobeniusPower.{frobenius_power}
 use Rattle.fj_plain.specs.declared.order_name.OrderName.TheVariants.{Grevlex}
-use Rattle.fj_theory.specs.Polynomial.{Polynomial}
 use Rattle.fj_ideal.specs.Ideal.{IsIdealOf}
 use Rattle.fj_script.specs.declared.question.Question.TheVariants as questions
 use Rattle.fj_session.specs.Named.{ideal_at}

@@ -1,4 +1,4 @@
-use Rattle.std.proofs.Common.{◌≡◌, ℕ, ◌^◌, ◌∷◌, [], Any, Err, sym, ap, ◌∙◌, subst, refl}
+use Rattle.std.proofs.Common.{ℕ, ◌^◌, Any, Err, sym, ◌∙◌, subst, refl}
 use Rattle.fj_theory.specs.FrobeniusPower.{frobenius_power}
 use Rattle.fj_theory.specs.Polynomial.{power}
 use Rattle.fj_poly.specs.Limit.{IsHigh, IsHighWhere}

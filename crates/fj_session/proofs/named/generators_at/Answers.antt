@@ -1,4 +1,4 @@
-use Rattle.std.proofs.Common.{All, List, ◌≡◌, Some, sym, ap, ◌∙◌, subst}
+use Rattle.std.proofs.Common.{All, List, ◌≡◌, sym, ap, ◌∙◌, subst}
 use Rattle.std.proofs.lemmas.Option.{same_Some}
 use Rattle.fj_theory.specs.Plain.{HasRanksBelow, PlainPolynomial}
 use Rattle.fj_script.specs.declared.value.Value.TheVariants as values

@@ -1,5 +1,4 @@
-use Rattle.std.proofs.Common.{◌≡◌, ◌≢◌, sym, ◌∙◌, refl, IfErr}
-use Rattle.fj_plain.specs.declared.order_name.OrderName.{OrderName}
+use Rattle.std.proofs.Common.{◌≡◌, ◌≢◌, sym, ◌∙◌, refl}
 use Rattle.fj_plain.specs.declared.order_name.OrderName.TheVariants.{Lex, Grlex, Grevlex, Elim}
 use Rattle.fj_session.proofs.Stops.{run_stops}
 use Rattle.fj_session.proofs.shown.shown_basis.Goals as goal
