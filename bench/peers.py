@@ -128,6 +128,10 @@ class Singular(Peer):
                 return [f'print("{question.number} @ " + string({inside}));']
             case ["parts", "0", f]:
                 return [f'print("{question.number} @ " + string(p{f}));']
+            case ["basis", j] if question.order == "grevlex":
+                n = question.number
+                lifted = f"matrix t{n}; ideal a{n} = liftstd(i{j}, t{n});"
+                return [lifted, f'print("{n} @ " + string(interred(a{n})));']
             case words:
                 made = f"ideal a{question.number} = {self.ideal_of(words, session)};"
                 at = f"S{question.order}"

@@ -2,11 +2,12 @@
 """Times the built program on sessions, and beside it Macaulay2 and Singular on the same questions, where installed.
 
 `bench/run.py [--turns] [WORKLOAD ..]`; the workloads are those of `bench/workloads.py`, all of them where none is
-named. The program is built by `bin/fjcalc`. A time is the least of three runs by a clock, less that of an empty session
+named. The program is built by `bin/fjcalc`. A time is the least of five runs by a clock, less that of an empty session
 or script, so start-up is left out; below a thousandth of a second it says nothing. A ratio is the program's time over
-the peer's. Where a peer has no call for a question (Singular for Frobenius roots) the ratio is left out, and where
-its answers differ from the program's the row says so. With `--turns` the least budget with which the basis of the
-first ideal is answered is looked for, by bisection: the number of turns that the run takes.
+the peer's; for `basis` Singular is asked for `liftstd`, which returns cofactors too. Where a peer has no call for a
+question (Singular for Frobenius roots) the ratio is left out, and where its answers differ from the program's the row
+says so. With `--turns` the least budget with which no question is stopped is looked for, by bisection: the number of
+turns that the run takes.
 """
 
 import pathlib
@@ -19,8 +20,8 @@ from session import read
 from workloads import WORKLOADS
 
 TOP = pathlib.Path(__file__).resolve().parent.parent
-PROGRAM = TOP / "bin" / "fjcalc"
-RUNS = 3
+PROGRAM = TOP / "crates" / "fjcalc" / "out" / "fjcalc"
+RUNS = 5
 LIMIT = 600
 
 
@@ -71,6 +72,7 @@ def main() -> None:
     with_turns = "--turns" in sys.argv
     peers = [peer for peer in PEERS if peer.is_installed()]
     empty = "ring 2 x\n"
+    subprocess.run([TOP / "bin" / "fjcalc", "run"], input=empty, text=True, check=True)
     start = answered(empty)[1]
     starts = {peer.name: (peer_answered(peer, empty) or ([], 0.0))[1] for peer in peers}
     header = f"{'workload':<10}{'size':>6}{'seconds':>10}{'growth':>8}" + ("   turns" if with_turns else "")
