@@ -25,8 +25,7 @@ use Rattle.fj_script.specs.LineFault.{Answer, fault_at}
 use Rattle.fj_script.specs.Names as names
 use Rattle.fj_script.specs.Numbers as numbers
 use Rattle.fj_script.specs.Session.{Session, Value, Poly, Ideal, Point, is_nonconstant, kind}
-use Rattle.fj_script.proofs.AcceptedDeclarations.{yields_then}
-use Rattle.fj_script.proofs.AcceptedYields.{Yields, yields_if, yields_option}
+use Rattle.fj_script.proofs.AcceptedYields.{Yields, yields_if, yields_option, yields_then}
 use Rattle.fj_script.proofs.GrammarTokens.{Takes, narrow_takes, on_next, on_sign, word_of_takes, word_takes}
 use Rattle.fj_script.proofs.NewNames.{unlike}
 use Rattle.fj_script.proofs.Ratios.{Reduced, of_form, over_zero, reduced}

@@ -51,9 +51,8 @@ use Rattle.fj_script.specs.Ring as rings
 use Rattle.fj_script.specs.Script as script
 use Rattle.fj_script.specs.Session.{Session, Terms, Poly, Ideal, Point, ask, declare, new_session, terms_in}
 use Rattle.fj_script.specs.Statement as statements
-use Rattle.fj_script.proofs.AcceptedDeclarations.{yields_then}
 use Rattle.fj_script.proofs.AcceptedPrimes.{prime_listed}
-use Rattle.fj_script.proofs.AcceptedYields.{Yields, yielded, yields_if, yields_option}
+use Rattle.fj_script.proofs.AcceptedYields.{Yields, yielded, yields_if, yields_option, yields_then}
 use Rattle.fj_script.proofs.GrammarPieces.{IsDeclared, Named, Numbered, as_ideal, as_point, declared_takes, exponent_takes, ideal_takes, level_takes, new_name_takes, nonconstant_takes, nothing_found, point_by_takes, polynomial_takes, ratio_takes, within_takes}
 use Rattle.fj_script.proofs.GrammarTokens.{Takes, end_takes, enclosed_takes, listed_takes, narrow_takes, number_takes, on_next, on_sign, sign_takes, word_of_takes, word_takes}
 use Rattle.fj_script.proofs.Meanings.{among_variables, expression_along}

@@ -15,8 +15,7 @@ use Rattle.fj_script.specs.Grammar as grammar
 use Rattle.fj_script.specs.Grammar.{AreListed}
 use Rattle.fj_script.specs.Items.{at_end, comma, enclosed, listed, more, narrow, number, number_of, sign, word, word_of}
 use Rattle.fj_script.specs.LineFault.{Answer, ◌>>=◌, not_here}
-use Rattle.fj_script.proofs.AcceptedDeclarations.{yields_then}
-use Rattle.fj_script.proofs.AcceptedYields.{Yields, yields_if, yields_option}
+use Rattle.fj_script.proofs.AcceptedYields.{Yields, yields_if, yields_option, yields_then}
 use Rattle.fj_script.proofs.More.{GoesOn, list_begins, list_goes, list_stops}
 
 -- ---- what was read stood there
