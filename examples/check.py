@@ -5,7 +5,7 @@
 
 - each NAME.session of this folder, with the answers NAME.answers;
 - in README.md and docs/MANUAL.md each block marked `session`, with the next block marked `answers`, and each block
-  marked `sh` that such a block follows, which is run at the top of the repository;
+  marked `sh` that such a block follows, which is run at the top of the repository with the program for `bin/fjcalc`;
 - in docs/MANUAL.md each row of a table with a session in one cell, its lines parted by a return sign, and what the
   program writes in the next.
 
@@ -34,31 +34,41 @@ def status_of(answers: str) -> int:
 
 def examples(program: str):
     """Each example: where it stands, the command, its input, and what it has to write."""
-    run = [program, "run"]
+    answering = [program, "run"]
     for session in sorted(HERE.glob("*.session")):
-        yield session.name, run, session.read_text(), session.with_suffix(".answers").read_text()
+        yield session.name, answering, session.read_text(), session.with_suffix(".answers").read_text()
     for document in [TOP / "README.md", TOP / "docs" / "MANUAL.md"]:
         text = document.read_text()
         for block in BLOCKS.finditer(text):
             kind, asked, answers = block.groups()
             where = f"{document.name}, line {text.count(chr(10), 0, block.start()) + 1}"
-            yield (where, run, asked, answers) if kind == "session" else (where, ["bash", "-c", asked], "", answers)
+            command = ["bash", "-c", asked.replace("bin/fjcalc", program)]
+            yield (where, answering, asked, answers) if kind == "session" else (where, command, "", answers)
         for row in ROWS.finditer(text):
             where = f"{document.name}, line {text.count(chr(10), 0, row.start()) + 1}"
             lines = [line.strip() for line in row[1].split("⏎")]
-            yield where, run, "\n".join(lines) + "\n", row[2] + "\n"
+            yield where, answering, "\n".join(lines) + "\n", row[2] + "\n"
+
+
+def run(command: list[str], asked: str) -> tuple[str, int | str]:
+    """What the command writes, and its status."""
+    try:
+        done = subprocess.run(command, cwd=TOP, input=asked, capture_output=True, text=True, timeout=SECONDS)
+    except subprocess.TimeoutExpired:
+        return "", f"none after {SECONDS} seconds"
+    return done.stdout, done.returncode
 
 
 def main() -> None:
     program = str(pathlib.Path(sys.argv[1] if len(sys.argv) > 1 else TOP / "crates" / "fjcalc" / "out" / "fjcalc").resolve())
     passed = failed = 0
     for where, command, asked, answers in examples(program):
-        done = subprocess.run(command, cwd=TOP, input=asked, capture_output=True, text=True, timeout=SECONDS)
-        if (done.stdout, done.returncode) == (answers, status_of(answers)):
+        written, status = run(command, asked)
+        if (written, status) == (answers, status_of(answers)):
             passed += 1
             continue
         failed += 1
-        print(f"{where}: status {done.returncode}, wanted {status_of(answers)}\n--- written\n{done.stdout}--- wanted\n{answers}")
+        print(f"{where}: status {status}, wanted {status_of(answers)}\n--- written\n{written}--- wanted\n{answers}")
     print(f"examples: {passed} passed, {failed} failed")
     sys.exit(1 if failed or not passed else 0)
 
