@@ -30,7 +30,9 @@ pub mod GrammarComplete
 pub mod TwoRuns
 pub mod TwoReadings
 pub mod Rising
+pub mod Ranks
 pub mod FirstFault
+pub mod Ranked
 pub mod FineValues
 pub mod Beginnings
 pub mod Continuations

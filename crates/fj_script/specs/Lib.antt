@@ -17,3 +17,4 @@ pub mod Grammar
 pub mod GrammarLaws
 pub mod FirstFault
 pub mod Beginning
+pub mod Rank

@@ -4,6 +4,7 @@
 ghost use Rattle.fj_script.specs.Beginning.{BeginningIsLegal};
 ghost use Rattle.fj_script.specs.FirstFault.{FaultIsKnown, NothingBeforeIsWrong};
 ghost use Rattle.fj_script.specs.GrammarLaws.{AcceptedIsSession, SessionIsAccepted};
+ghost use Rattle.fj_script.specs.Rank.{KindIsHighest};
 
 /// A session that is accepted is one of the grammar, with its meaning.
 pub fn accepted_is_session()
@@ -32,4 +33,10 @@ pub fn fault_is_known()
 /// yet not wrong: a comma behind seven variables, and a fraction with numerator 0 where t has to be above 0.
 pub fn beginning_is_legal()
     ensures { BeginningIsLegal }
+{}
+
+/// The kind of a fault is the highest of those at its place, wherever two kinds can stand at one: Prime over Wide, Wide over
+/// Large, Range and Many, Vars over Taken, Syntax over Arity.
+pub fn kind_is_highest()
+    ensures { KindIsHighest }
 {}

@@ -1,0 +1,34 @@
+-- The kind of a fault has the highest rank of those that stand at its place.
+use Rattle.std.specs.Prelude.{◌≡◌, ℕ, zero, ◌+◌, ◌^◌, ◌<◌, ◌≤◌, List, [], ◌∷◌, ◌++◌, length, map, take, Contains, Err, codes}
+use Rattle.fj_text.specs.Token.{Token, Word, Number, Sign, Placed, closing, tokens_from}
+use Rattle.fj_script.specs.declared.fault.Fault.{Fault}
+use Rattle.fj_script.specs.declared.fault.FaultKind.TheVariants as kinds
+use Rattle.fj_script.specs.FirstFault.{HasStatements, line_at, tokens_before}
+use Rattle.fj_script.specs.Grammar.{tokens_of}
+use Rattle.fj_script.specs.Script.{script}
+
+-- This token stands at a place.
+abbrev pub StandsAt : Fault → List ℕ → Token → Type 0
+StandsAt place bytes t = (at : Placed) × Contains (tokens_from zero zero (line_at place.line bytes)) at × (at.start + 1 ≡ place.column) × (at.token ≡ t)
+
+-- The line of a place begins with this word.
+abbrev pub BeginsWith : Fault → List ℕ → List ℕ → Type 0
+BeginsWith place bytes w = (ts : List Token) × (tokens_of (line_at place.line bytes) ≡ Word w ∷ ts)
+
+-- Where two kinds could stand at one place, the lower one is told only where the higher one doesn't stand.
+pub record IsHighest (bytes : List ℕ) (place : Fault) : Type 0 where
+  -- no number of the ring's line is Wide
+  pub prime_over_wide : place.kind ≡ kinds.Wide → BeginsWith place bytes (codes "ring") → ⊥
+  -- a number that is Large, that is out of range, or with which there are too many terms isn't wide
+  pub wide_over_large : place.kind ≡ kinds.Large → (n : ℕ) → StandsAt place bytes (Number n) → n < 2 ^ 32
+  pub wide_over_range : place.kind ≡ kinds.Range → (n : ℕ) → StandsAt place bytes (Number n) → n < 2 ^ 32
+  pub wide_over_many : place.kind ≡ kinds.Many → (n : ℕ) → StandsAt place bytes (Number n) → n < 2 ^ 32
+  -- a variable that is taken is one of the first seven: at most `ring`, the prime, and six variables with their commas stand before it
+  pub vars_over_taken : place.kind ≡ kinds.Taken → BeginsWith place bytes (codes "ring") → length (tokens_before place.column (line_at place.line bytes)) ≤ 14
+  -- a closing parenthesis behind too few coordinates stands behind a number
+  pub syntax_over_arity : place.kind ≡ kinds.Arity → StandsAt place bytes (Sign closing)
+      → (n : ℕ) × (ts : List Token) × (map (λ t. t.token) (tokens_before place.column (line_at place.line bytes)) ≡ ts ++ Number n ∷ [])
+
+-- The kind of a fault is the highest at its place.
+abbrev pub KindIsHighest : Type 0
+KindIsHighest = (bytes : List ℕ) (place : Fault) → HasStatements bytes → script bytes ≡ Err place → IsHighest bytes place
