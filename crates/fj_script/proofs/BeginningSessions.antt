@@ -17,6 +17,7 @@ use Rattle.fj_script.specs.declared.fault.LineFault.{LineFault}
 use Rattle.fj_script.specs.declared.question.Question.{Question}
 use Rattle.fj_script.specs.declared.statement.Keyword.{Keyword}
 use Rattle.fj_script.specs.declared.statement.Keyword.TheVariants as keywords
+use Rattle.fj_script.specs.declared.fault.Fault.{Fault}
 use Rattle.fj_script.specs.FirstFault.{line_at, tokens_before}
 use Rattle.fj_script.specs.Grammar as grammar
 use Rattle.fj_script.specs.Grammar.{AreListed, AreStatements, IsQuestion, IsRing, IsSession, IsStatement, IsVariable, tokens_of}
@@ -27,7 +28,7 @@ use Rattle.fj_script.specs.Script.{from_line, lines}
 use Rattle.fj_script.specs.Session.{Session, new_session}
 use Rattle.fj_script.specs.Statement as statements
 use Rattle.fj_script.proofs.AcceptedYields.{yielded}
-use Rattle.fj_script.proofs.FirstFault.{first_wrong, line_is, lines_wrong, no_tokens}
+use Rattle.fj_script.proofs.FirstFault.{FirstWrong, first_wrong, line_is, lines_wrong, no_tokens}
 use Rattle.fj_script.proofs.Rising.{AreRising, line_rises, none_before, rising_behind, starts_before, starts_below}
 use Rattle.fj_script.proofs.TwoReadings.{line_from}
 use Rattle.fj_script.proofs.Beginnings.{Reading, SoFar, StandsAt, Stuck, behind, late, read, reading_if, stuck, then_reading}
@@ -298,6 +299,14 @@ ended : (number : ℕ) (before : Option Session) → from_line number before [] 
 unfolding from_line
 ended number before = refl
 
+-- the session that the lines before a fault make
+pub made_before : (bytes : List ℕ) (place : Fault) (w : FirstWrong 1 None (lines bytes) place) → MakeSession (map tokens_of (take (place.line - 1) (lines bytes))) w.session
+made_before bytes place w =
+    let line_of : place.line ≡ 1 + w.count = ap (λ f. f.line) w.is in
+    let count_is : place.line - 1 ≡ w.count = omega (arith, line_of) in
+    subst (λ n. MakeSession (map tokens_of (take n (lines bytes))) w.session) (sym count_is)
+    (makes (take w.count (lines bytes)) w.session (w.reached (take w.count (lines bytes)) (take_twice w.count (lines bytes)) ∙ ap (from_line (1 + w.count) w.session) (drop_taken w.count (lines bytes)) ∙ ended (1 + w.count) w.session))
+
 pub beginning_legal : BeginningIsLegal
 beginning_legal bytes place H e =
     let w = first_wrong 1 None (lines bytes) place (lines_wrong bytes place H e) in
@@ -305,12 +314,11 @@ beginning_legal bytes place H e =
     let count_is : place.line - 1 ≡ w.count = omega (arith, line_of) in
     let column_is : place.column ≡ w.found.column + 1 = ap (λ f. f.column) w.is in
     let l : List ℕ = get_or (lines bytes) w.count [] in
-    let made : MakeSession (map tokens_of (take w.count (lines bytes))) w.session =
-    makes (take w.count (lines bytes)) w.session (w.reached (take w.count (lines bytes)) (take_twice w.count (lines bytes)) ∙ ap (from_line (1 + w.count) w.session) (drop_taken w.count (lines bytes)) ∙ ended (1 + w.count) w.session) in
+    let made = made_before bytes place w in
     let K = line_stuck w.session (make_usual _ w.session made) (tokens_from zero zero l) w.found (sym (line_is w.session l) ∙ w.wrong) in
     let tokens : tokens_before place.column (line_at place.line bytes) ≡ K.before =
     ap (λ n. tokens_before n (line_at place.line bytes)) column_is ∙ ap (λ n. tokens_before (w.found.column + 1) (get_or (lines bytes) n [])) count_is ∙ before_is l w.found.column K.before K.rest K.all K.at in (
       w.session,
-      subst (λ n. MakeSession (map tokens_of (take n (lines bytes))) w.session) (sym count_is) made,
+      made,
       subst (λ ts. MayStand w.session (map (λ t. t.token) ts)) (sym tokens) K.goes_on,
     )

@@ -1,5 +1,5 @@
 -- Numbers, fractions and names that were read are those of the grammar.
-use Rattle.std.proofs.Common.{◌≡◌, ℕ, zero, suc, ◌*◌, ◌^◌, ◌<◌, ◌≤◌, Bool, true, false, cond, ◌||◌, ◌&&◌, not, leb, ltb, eqb, List, [], ◌∷◌, ◌++◌, length, get_or, Option, Some, None, Ok, Err, refl, sym, ap, ◌∙◌, subst, arith}
+use Rattle.std.proofs.Common.{◌≡◌, ℕ, zero, suc, ◌*◌, ◌^◌, ◌<◌, ◌≤◌, Bool, true, false, cond, ◌||◌, ◌&&◌, not, leb, ltb, eqb, List, [], ◌∷◌, ◌++◌, length, get_or, Option, Some, None, Ok, Err, refl, sym, ap, ◌∙◌, subst, arith, ◌≢◌, All}
 use Rattle.std.specs.List.{slice_get}
 use Rattle.std.specs.Option.{is_some, option_and_then, option_map, option_map_or}
 use Rattle.std.specs.Str.{bytes_eq}
@@ -125,6 +125,18 @@ pub nothing_found : (o : Option ℕ) → is_some o ≡ false → None ≡ o
 nothing_found None e = refl
 nothing_found (Some i) e = absurd cc
 
+-- A word that isn't a name.
+pub new_word : (S : Session) (w : List ℕ) → (names.is_variable S w || is_some (place_of (names.declared_names S.values) w)) ≡ false → All (λ v. v ≢ w) S.variables × All (λ v. v.0 ≢ w) S.values
+new_word S w e =
+    let both = neither (names.is_variable S w) (is_some (place_of (names.declared_names S.values) w)) e in (
+      λ i d inside. unlike w S.variables (nothing_found _ both.0) i d inside,
+      λ i d inside same. unlike w (names.declared_names S.values) (nothing_found _ both.1) i [] (omega (arith, names_of S.values, inside)) (get_or-map (λ v. v.0) S.values i d [] inside ∙ same),
+    )
+  where
+    names_of : (vs : List (List ℕ × Value)) → length (names.declared_names vs) ≡ length vs
+    names_of [] = refl
+    names_of (v ∷ vs) = ap suc (names_of vs)
+
 pub new_name_takes : (S : Session) (s : State) → Yields (λ w. (tokens_left s ≡ Word w.0 ∷ tokens_left w.1) × IsNew S w.0) (names.new_name S s)
 unfolding names.new_name
 new_name_takes S s =
@@ -132,21 +144,17 @@ new_name_takes S s =
     (λ w h. yields_if Goal (names.is_variable S w.0 || is_some (place_of (names.declared_names S.values) w.0)) _ _ (λ _. tt)
     (λ e. yields_if Goal (leb 4096 (length S.values)) _ _ (λ _. tt)
     (λ few.
-    let both = neither (names.is_variable S w.0) (is_some (place_of (names.declared_names S.values) w.0)) e in (
+    let both = new_word S w.0 e in (
       h,
       record {
-        no_variable = λ i d inside. unlike w.0 S.variables (nothing_found _ both.0) i d inside;
-        not_declared = λ i d inside same. unlike w.0 (names.declared_names S.values) (nothing_found _ both.1) i [] (omega (arith, names_of S.values, inside)) (get_or-map (λ v. v.0) S.values i d [] inside ∙ same);
+        no_variable = both.0;
+        not_declared = both.1;
         few = leb-false _ _ few;
       },
     ))))
   where
     Goal : List ℕ × State → Type 0
     Goal w = (tokens_left s ≡ Word w.0 ∷ tokens_left w.1) × IsNew S w.0
-
-    names_of : (vs : List (List ℕ × Value)) → length (names.declared_names vs) ≡ length vs
-    names_of [] = refl
-    names_of (v ∷ vs) = ap suc (names_of vs)
 
 -- A value that was declared by this name at this place.
 abbrev pub Declares : Session → List ℕ → ℕ → Kind → Type 0

@@ -32,7 +32,6 @@ pub mod TwoReadings
 pub mod Rising
 pub mod Ranks
 pub mod FirstFault
-pub mod Ranked
 pub mod FineValues
 pub mod Beginnings
 pub mod Continuations
@@ -40,3 +39,4 @@ pub mod BeginningLines
 pub mod BeginningQuestions
 pub mod BeginningStatements
 pub mod BeginningSessions
+pub mod Ranked

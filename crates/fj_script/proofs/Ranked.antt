@@ -1,26 +1,28 @@
 -- The kind of a fault is the highest at its place.
-use Rattle.std.proofs.Common.{◌≡◌, ℕ, zero, suc, ◌+◌, ◌-◌, ◌^◌, ◌<◌, ◌≤◌, ◌||◌, false, List, [], ◌∷◌, ◌++◌, length, map, get_or, filter, Contains, Option, Some, None, Result, Ok, Err, codes, refl, sym, ap, ◌∙◌, subst, arith}
+use Rattle.std.proofs.Common.{◌≡◌, ℕ, zero, ◌+◌, ◌-◌, ◌||◌, false, List, [], ◌∷◌, ◌++◌, length, map, get_or, Contains, Option, Some, None, Result, Ok, Err, codes, refl, sym, ap, ◌∙◌, subst, arith, ◌≢◌, All, inl, inr}
 use Rattle.std.specs.Option.{is_some}
 use Rattle.std.proofs.lemmas.List.{map-append}
 use Rattle.fj_text.specs.State.{State, after, next}
-use Rattle.fj_text.specs.Token.{Token, Word, Number, Sign, BadByte, Placed, closing, tokens_from}
+use Rattle.fj_text.specs.Token.{Token, Word, Number, Sign, BadByte, Placed, tokens_from}
 use Rattle.fj_text.specs.Word.{place_of}
-use Rattle.fj_script.specs.declared.fault.Fault.{Fault}
 use Rattle.fj_script.specs.declared.fault.FaultKind.{FaultKind}
 use Rattle.fj_script.specs.declared.fault.FaultKind.TheVariants as kinds
 use Rattle.fj_script.specs.declared.fault.LineFault.{LineFault}
 use Rattle.fj_script.specs.declared.statement.Keyword.{Keyword}
 use Rattle.fj_script.specs.declared.statement.Keyword.TheVariants as keywords
-use Rattle.fj_script.specs.FirstFault.{HasStatements, line_at, tokens_before}
-use Rattle.fj_script.specs.Grammar.{tokens_of}
+use Rattle.fj_script.specs.Beginning.{MakeSession}
+use Rattle.fj_script.specs.FirstFault.{line_at, tokens_before}
+use Rattle.fj_script.specs.Grammar.{IsSession, tokens_of}
 use Rattle.fj_script.specs.Items.{word_of}
 use Rattle.fj_script.specs.LineFault.{◌>>=◌}
 use Rattle.fj_script.specs.Names.{declared_names, is_variable}
-use Rattle.fj_script.specs.Rank.{BeginsWith, IsHighest, KindIsHighest, StandsAt}
-use Rattle.fj_script.specs.Script.{lines, script}
+use Rattle.fj_script.specs.Rank.{BeginsWith, Declares, KindIsHighest}
+use Rattle.fj_script.specs.Script.{lines}
 use Rattle.fj_script.specs.Session.{Session}
 use Rattle.fj_script.specs.Statement as statements
+use Rattle.fj_script.proofs.BeginningSessions.{made_before}
 use Rattle.fj_script.proofs.FirstFault.{FirstWrong, first_wrong, line_is, lines_wrong}
+use Rattle.fj_script.proofs.GrammarPieces.{new_word}
 use Rattle.fj_script.proofs.Ranks as ranks
 use Rattle.fj_script.proofs.Rising.{AreRising, line_rises}
 use Rattle.fj_script.proofs.TwoReadings.{line_from}
@@ -35,18 +37,18 @@ OfRing (Some keywords.Ideal) = ⊥
 OfRing (Some keywords.Point) = ⊥
 OfRing (Some keywords.Ask) = ⊥
 
-abbrev Declares : Option Keyword → Type 0
-Declares None = ⊥
-Declares (Some keywords.Ring) = ⊥
-Declares (Some keywords.Order) = ⊥
-Declares (Some keywords.Budget) = ⊥
-Declares (Some keywords.Poly) = Unit {0}
-Declares (Some keywords.Ideal) = Unit {0}
-Declares (Some keywords.Point) = Unit {0}
-Declares (Some keywords.Ask) = ⊥
+abbrev DeclaresBy : Option Keyword → Type 0
+DeclaresBy None = ⊥
+DeclaresBy (Some keywords.Ring) = ⊥
+DeclaresBy (Some keywords.Order) = ⊥
+DeclaresBy (Some keywords.Budget) = ⊥
+DeclaresBy (Some keywords.Poly) = Unit {0}
+DeclaresBy (Some keywords.Ideal) = Unit {0}
+DeclaresBy (Some keywords.Point) = Unit {0}
+DeclaresBy (Some keywords.Ask) = ⊥
 
 abbrev NewIn : Option Session → List ℕ → Type 0
-NewIn None w = Unit {0}
+NewIn None w = ⊥
 NewIn (Some S) w = (is_variable S w || is_some (place_of (declared_names S.values) w)) ≡ false
 
 abbrev keyword_at : List Placed → Option Keyword
@@ -59,9 +61,9 @@ Made S = Unit {0}
 -- ---- a line
 
 abbrev Fits : List Placed → Option Session → Option Keyword → LineFault → Type 0
-Fits all before k f = ranks.LineFits all (OfRing k) (Declares k) (NewIn before) f
+Fits all before k f = ranks.LineFits all (OfRing k) (DeclaresBy k) (NewIn before) f
 
-statement_fits : (all : List Placed) (before : Option Session) (k : Option Keyword) (s : State) → ranks.IsTaken all (OfRing k) (Declares k) (NewIn before) (ranks.Start all (OfRing k) (Declares k) (NewIn before)) s
+statement_fits : (all : List Placed) (before : Option Session) (k : Option Keyword) (s : State) → ranks.IsTaken all (OfRing k) (DeclaresBy k) (NewIn before) (ranks.Start all (OfRing k) (DeclaresBy k) (NewIn before)) s
     → ranks.Holds (Fits all before k) Made (statements.statement_of before k s)
 unfolding statements.first statements.later
 statement_fits all None (Some keywords.Ring) s h = ranks.ring_fits all (Unit {0}) ⊥ (NewIn None) s h
@@ -111,6 +113,23 @@ ring_line (t ∷ ts) us e = by t.token (let first : t.token ≡ Word (codes "rin
     by : (tok : Token) → tok ≡ Word (codes "ring") → OfRing (elim tok [ Word w ↦ statements.keyword_of w | Number n ↦ None | Sign b ↦ None | BadByte ↦ None ])
     by tok e = subst (λ tok. OfRing (elim tok [ Word w ↦ statements.keyword_of w | Number n ↦ None | Sign b ↦ None | BadByte ↦ None ])) (sym e) tt
 
+declaring_line : (keyword : List ℕ) (ts : List Placed) (us : List Token) → Declares keyword → map (λ (t : Placed). t.token) ts ≡ Word keyword ∷ us → DeclaresBy (keyword_at ts)
+unfolding statements.keyword_of
+declaring_line keyword [] us h e = absurd cc
+declaring_line keyword (t ∷ ts) us h e = by t.token h (let first : t.token ≡ Word keyword = cc in first)
+  where
+    By : Token → Type 0
+    By tok = DeclaresBy (elim tok [ Word w ↦ statements.keyword_of w | Number n ↦ None | Sign b ↦ None | BadByte ↦ None ])
+
+    by : (tok : Token) → Declares keyword → tok ≡ Word keyword → By tok
+    by tok (inl is) e = subst By (sym (e ∙ ap Word is)) tt
+    by tok (inr (inl is)) e = subst By (sym (e ∙ ap Word is)) tt
+    by tok (inr (inr is)) e = subst By (sym (e ∙ ap Word is)) tt
+
+no_name : (ls : List (List Token)) (before : Option Session) (w : List ℕ) → MakeSession ls before → NewIn before w → (S : Session) × IsSession ls S × All (λ v. v ≢ w) S.variables × All (λ v. v.0 ≢ w) S.values
+no_name ls None w made new = absurd new
+no_name ls (Some S) w made new = let k = new_word S w new in (S, made, k.0, k.1)
+
 -- ---- a session
 
 pub kind_highest : KindIsHighest
@@ -120,6 +139,9 @@ kind_highest bytes place H e = record {
   wide_over_range = λ is n stands. ranks.narrow_there all R D N rises w.found.column (fit kinds.Range is) stands.0 (inside stands.1) (column_of stands.0 stands.2) n stands.3;
   wide_over_many = λ is n stands. ranks.narrow_there all R D N rises w.found.column (fit kinds.Many is) stands.0 (inside stands.1) (column_of stands.0 stands.2) n stands.3;
   vars_over_taken = λ is ring. let few = ranks.early all R D N rises w.found.column (fit kinds.Taken is (of_ring ring)) in let same = ap length tokens in omega (arith, few, same);
+  taken_over_many = λ keyword u is begins declares one stands.
+      no_name _ w.session u (made_before bytes place w)
+      (ranks.new_there all R D N rises w.found.column (fit kinds.Many is) (declaring_line keyword all begins.0 declares (ap tokens_of (sym line_same) ∙ begins.1)) (sym (ap length tokens) ∙ one) stands.0 (inside stands.1) (column_of stands.0 stands.2) u stands.3);
   syntax_over_arity = λ is stands.
       let k = ranks.number_before all R D N rises w.found.column (fit kinds.Arity is) stands.0 (inside stands.1) (column_of stands.0 stands.2) stands.3 in
       (k.3.0, map (λ t. t.token) k.0, ap (map (λ t. t.token)) (tokens ∙ k.2) ∙ map-append (λ (t : Placed). t.token) k.0 (k.1 ∷ []) ∙ ap (λ u. map (λ t. t.token) k.0 ++ u ∷ []) k.3.1);
@@ -141,7 +163,7 @@ kind_highest bytes place H e = record {
     R = OfRing (keyword_at all)
 
     D : Type 0
-    D = Declares (keyword_at all)
+    D = DeclaresBy (keyword_at all)
 
     N : List ℕ → Type 0
     N = NewIn w.session

@@ -1,5 +1,5 @@
 -- What is told of the token at the place of a fault.
-use Rattle.std.proofs.Common.{◌≡◌, ℕ, zero, suc, ◌+◌, ◌%◌, ◌^◌, ◌<◌, ◌≤◌, ◌*◌, ◌==◌, Bool, true, false, cond, ◌||◌, leb, ltb, eqb, List, [], ◌∷◌, ◌++◌, length, filter, All, Contains, Option, Some, None, IfSome, Result, Ok, Err, refl, sym, ap, ◌∙◌, subst, arith, append_assoc}
+use Rattle.std.proofs.Common.{◌≡◌, ℕ, zero, suc, ◌+◌, ◌^◌, ◌<◌, ◌≤◌, ◌*◌, ◌==◌, Bool, true, false, cond, ◌||◌, leb, ltb, eqb, List, [], ◌∷◌, ◌++◌, length, filter, All, Contains, Option, Some, None, IfSome, Result, Ok, Err, refl, sym, ap, ◌∙◌, subst, arith, append_assoc}
 use Rattle.std.specs.Option.{is_some, option_map, option_map_or}
 use Rattle.std.proofs.lemmas.Bool.{eqb-true, leb-false, lt-ltb}
 use Rattle.std.proofs.lemmas.List.{length-append}
@@ -8,7 +8,6 @@ use Rattle.fj_coeff.specs.Field.{Field}
 use Rattle.fj_coeff.specs.PrimeField.{prime_field}
 use Rattle.fj_theory.specs.Fraction.{Fraction}
 use Rattle.fj_theory.specs.Polynomial.{Polynomial, negation, product, sum}
-use Rattle.fj_text.specs.declared.fault.Cause.TheVariants as causes
 use Rattle.fj_text.specs.declared.fault.Fault as faults
 use Rattle.fj_text.specs.declared.scope.Meaning.{Meaning}
 use Rattle.fj_text.specs.declared.scope.Meaning.TheVariants as meanings
@@ -23,13 +22,11 @@ use Rattle.fj_script.specs.declared.fault.FaultKind.TheVariants as kinds
 use Rattle.fj_script.specs.declared.fault.LineFault.{LineFault}
 use Rattle.fj_script.specs.declared.question.Question.{Question}
 use Rattle.fj_script.specs.declared.question.Question.TheVariants as questions
-use Rattle.fj_script.specs.declared.statement.Keyword.{Keyword}
-use Rattle.fj_script.specs.declared.statement.Keyword.TheVariants as keywords
 use Rattle.fj_script.specs.declared.value.Kind.{Kind}
 use Rattle.fj_script.specs.declared.value.Kind.TheVariants as values
 use Rattle.fj_script.specs.Declaration as declaration
 use Rattle.fj_script.specs.Items.{at_end, comma, enclosed, equals, listed, more, narrow, number, number_of, sign, slash, taking, word, word_of}
-use Rattle.fj_script.specs.LineFault.{Answer, ◌>>=◌, fault_at, kind_of, not_here}
+use Rattle.fj_script.specs.LineFault.{Answer, ◌>>=◌, kind_of, not_here}
 use Rattle.fj_script.specs.Names as names
 use Rattle.fj_script.specs.Numbers as numbers
 use Rattle.fj_script.specs.Question as question

@@ -1,11 +1,12 @@
 -- The kind of a fault has the highest rank of those that stand at its place.
-use Rattle.std.specs.Prelude.{◌≡◌, ℕ, zero, ◌+◌, ◌^◌, ◌<◌, ◌≤◌, List, [], ◌∷◌, ◌++◌, length, map, take, Contains, Err, codes}
+use Rattle.std.specs.Prelude.{◌≡◌, ◌≢◌, ℕ, zero, ◌+◌, ◌-◌, ◌^◌, ◌<◌, ◌≤◌, ◌⊎◌, List, [], ◌∷◌, ◌++◌, length, map, take, All, Contains, Err, codes}
 use Rattle.fj_text.specs.Token.{Token, Word, Number, Sign, Placed, closing, tokens_from}
 use Rattle.fj_script.specs.declared.fault.Fault.{Fault}
 use Rattle.fj_script.specs.declared.fault.FaultKind.TheVariants as kinds
 use Rattle.fj_script.specs.FirstFault.{HasStatements, line_at, tokens_before}
-use Rattle.fj_script.specs.Grammar.{tokens_of}
-use Rattle.fj_script.specs.Script.{script}
+use Rattle.fj_script.specs.Grammar.{IsSession, tokens_of}
+use Rattle.fj_script.specs.Script.{lines, script}
+use Rattle.fj_script.specs.Session.{Session}
 
 -- This token stands at a place.
 abbrev pub StandsAt : Fault → List ℕ → Token → Type 0
@@ -14,6 +15,9 @@ StandsAt place bytes t = (at : Placed) × Contains (tokens_from zero zero (line_
 -- The line of a place begins with this word.
 abbrev pub BeginsWith : Fault → List ℕ → List ℕ → Type 0
 BeginsWith place bytes w = (ts : List Token) × (tokens_of (line_at place.line bytes) ≡ Word w ∷ ts)
+
+abbrev pub Declares : List ℕ → Type 0
+Declares keyword = (keyword ≡ codes "poly") ⊎ (keyword ≡ codes "ideal") ⊎ (keyword ≡ codes "point")
 
 -- Where two kinds could stand at one place, the lower one is told only where the higher one doesn't stand.
 pub record IsHighest (bytes : List ℕ) (place : Fault) : Type 0 where
@@ -25,6 +29,9 @@ pub record IsHighest (bytes : List ℕ) (place : Fault) : Type 0 where
   pub wide_over_many : place.kind ≡ kinds.Many → (n : ℕ) → StandsAt place bytes (Number n) → n < 2 ^ 32
   -- a variable that is taken is one of the first seven: at most `ring`, the prime, and six variables with their commas stand before it
   pub vars_over_taken : place.kind ≡ kinds.Taken → BeginsWith place bytes (codes "ring") → length (tokens_before place.column (line_at place.line bytes)) ≤ 14
+  -- a word that is one name too many, the second of its declaration, isn't a name of the session that the lines before make
+  pub taken_over_many : (keyword w : List ℕ) → place.kind ≡ kinds.Many → BeginsWith place bytes keyword → Declares keyword → length (tokens_before place.column (line_at place.line bytes)) ≡ 1 → StandsAt place bytes (Word w)
+      → (S : Session) × IsSession (map tokens_of (take (place.line - 1) (lines bytes))) S × All (λ v. v ≢ w) S.variables × All (λ v. v.0 ≢ w) S.values
   -- a closing parenthesis behind too few coordinates stands behind a number
   pub syntax_over_arity : place.kind ≡ kinds.Arity → StandsAt place bytes (Sign closing)
       → (n : ℕ) × (ts : List Token) × (map (λ t. t.token) (tokens_before place.column (line_at place.line bytes)) ≡ ts ++ Number n ∷ [])

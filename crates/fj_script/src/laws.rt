@@ -36,7 +36,7 @@ pub fn beginning_is_legal()
 {}
 
 /// The kind of a fault is the highest of those at its place, wherever two kinds can stand at one: Prime over Wide, Wide over
-/// Large, Range and Many, Vars over Taken, Syntax over Arity.
+/// Large, Range and Many, Vars over Taken, Taken over Many, Syntax over Arity.
 pub fn kind_is_highest()
     ensures { KindIsHighest }
 {}
