@@ -19,7 +19,8 @@ BeginsWith place bytes w = (ts : List Token) × (tokens_of (line_at place.line b
 abbrev pub Declares : List ℕ → Type 0
 Declares keyword = (keyword ≡ codes "poly") ⊎ (keyword ≡ codes "ideal") ⊎ (keyword ≡ codes "point")
 
--- Where two kinds could stand at one place, the lower one is told only where the higher one doesn't stand.
+-- The pairs of kinds that could stand at one place: the lower one is told only where the higher one doesn't stand. Of Large over
+-- Many for the terms of one value, and of Syntax over the kinds of a token that may not stand there, nothing is said here.
 pub record IsHighest (bytes : List ℕ) (place : Fault) : Type 0 where
   -- no number of the ring's line is Wide
   pub prime_over_wide : place.kind ≡ kinds.Wide → BeginsWith place bytes (codes "ring") → ⊥

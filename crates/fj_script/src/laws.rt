@@ -35,8 +35,9 @@ pub fn beginning_is_legal()
     ensures { BeginningIsLegal }
 {}
 
-/// The kind of a fault is the highest of those at its place, wherever two kinds can stand at one: Prime over Wide, Wide over
-/// Large, Range and Many, Vars over Taken, Taken over Many, Syntax over Arity.
+/// Of two kinds that could stand at the place of a fault, the lower one is told only where the higher one doesn't stand: Prime
+/// over Wide, Wide over Large, Range and Many, Vars over Taken, Taken over Many for a declared name, and Syntax over Arity at
+/// a closing parenthesis.
 pub fn kind_is_highest()
     ensures { KindIsHighest }
 {}
