@@ -1,4 +1,4 @@
--- The kind of a fault has the highest rank of those that stand at its place.
+-- The rank of kinds at the place of a fault, for the pairs of kinds that `IsHighest` names.
 use Rattle.std.specs.Prelude.{◌≡◌, ◌≢◌, ℕ, zero, ◌+◌, ◌-◌, ◌^◌, ◌<◌, ◌≤◌, ◌⊎◌, List, [], ◌∷◌, ◌++◌, length, map, take, All, Contains, Err, codes}
 use Rattle.fj_text.specs.Token.{Token, Word, Number, Sign, Placed, closing, tokens_from}
 use Rattle.fj_script.specs.declared.fault.Fault.{Fault}
@@ -37,6 +37,6 @@ pub record IsHighest (bytes : List ℕ) (place : Fault) : Type 0 where
   pub syntax_over_arity : place.kind ≡ kinds.Arity → StandsAt place bytes (Sign closing)
       → (n : ℕ) × (ts : List Token) × (map (λ t. t.token) (tokens_before place.column (line_at place.line bytes)) ≡ ts ++ Number n ∷ [])
 
--- The kind of a fault is the highest at its place.
+-- Of each of these pairs the fault of a session is told by the higher kind.
 abbrev pub KindIsHighest : Type 0
 KindIsHighest = (bytes : List ℕ) (place : Fault) → HasStatements bytes → script bytes ≡ Err place → IsHighest bytes place
