@@ -2,7 +2,7 @@
 use Rattle.std.proofs.Common.{◌≡◌, ◌≢◌, ℕ, zero, suc, ◌+◌, ◌-◌, ◌<◌, ◌≤◌, true, cond, leb, List, [], ◌∷◌, ◌++◌, length, map, get_or, take, drop, codes, All, AllPairs, Contains, Option, Some, None, Result, Ok, Err, refl, sym, ap, ◌∙◌, subst, arith, append_assoc, inl, inr, ⊎_elim}
 use Rattle.std.specs.List.{filter}
 use Rattle.std.specs.Option.{is_some, option_map_or}
-use Rattle.std.proofs.lemmas.Bool.{cases_lt, leb-false, lt-ltb}
+use Rattle.std.proofs.lemmas.Bool.{cases_lt, leb-false, leb-true, lt-ltb}
 use Rattle.std.proofs.lemmas.List.{append-nil, get_or-map, length-append, length-map}
 use Rattle.fj_coeff.specs.Field.{primes}
 use Rattle.fj_plain.specs.declared.order_name.OrderName.{OrderName}
@@ -10,7 +10,7 @@ use Rattle.fj_text.specs.Grammar.{tokens_left}
 use Rattle.fj_text.specs.State.{State, after, end_of, next}
 use Rattle.fj_text.specs.Token.{Token, Word, Number, Sign, BadByte, Placed, tokens_from}
 use Rattle.fj_text.specs.Word.{place_of}
-use Rattle.fj_script.specs.Beginning.{BeginningIsLegal, CanGoOn, IsDoomed, MakeSession}
+use Rattle.fj_script.specs.Beginning.{BeginningIsLegal, CanGoOn, CanGoOnWith, IsDoomed, MakeSession}
 use Rattle.fj_script.specs.Beginning as beginning
 use Rattle.fj_script.specs.declared.fault.FaultKind.TheVariants as kinds
 use Rattle.fj_script.specs.declared.fault.LineFault.{LineFault}
@@ -23,6 +23,7 @@ use Rattle.fj_script.specs.Grammar as grammar
 use Rattle.fj_script.specs.Grammar.{AreListed, AreStatements, IsQuestion, IsRing, IsSession, IsStatement, IsVariable, tokens_of}
 use Rattle.fj_script.specs.Items.{at_end, comma, number, word_of}
 use Rattle.fj_script.specs.LineFault.{◌>>=◌, fault_at}
+use Rattle.fj_script.specs.Rank as rank
 use Rattle.fj_script.specs.Ring as rings
 use Rattle.fj_script.specs.Script.{from_line, lines}
 use Rattle.fj_script.specs.Session.{Session, new_session}
@@ -31,11 +32,11 @@ use Rattle.fj_script.proofs.AcceptedYields.{yielded}
 use Rattle.fj_script.proofs.FirstFault.{FirstWrong, first_wrong, line_is, lines_wrong, no_tokens}
 use Rattle.fj_script.proofs.Rising.{AreRising, line_rises, none_before, rising_behind, starts_before, starts_below}
 use Rattle.fj_script.proofs.TwoReadings.{line_from}
-use Rattle.fj_script.proofs.Beginnings.{Reading, SoFar, StandsAt, Stuck, behind, late, read, reading_if, stuck, then_reading}
-use Rattle.fj_script.proofs.BeginningLines.{MayStand, ask_goes, number_reading, within_reading, word_reading}
+use Rattle.fj_script.proofs.Beginnings.{Reading, SoFar, StandsAt, Stuck, Words, behind, front_same, late, numbers_at, read, reading_if, stuck, then_reading, too_many, toks}
+use Rattle.fj_script.proofs.BeginningLines.{MayStand, ask_goes, behind_lines, number_reading, within_reading, word_reading}
 use Rattle.fj_script.proofs.BeginningQuestions.{question_reading}
 use Rattle.fj_script.proofs.BeginningStatements.{IsStopped, bare, bare_alike, ideal_stopped, listed_more, listed_reading, point_stopped, poly_stopped, reading_with, stop_end, stop_if, stop_then}
-use Rattle.fj_script.proofs.Continuations.{new_word, new_word-is, wide, wide_ideal, wide_nonconstant, wide_point, wide_polynomial}
+use Rattle.fj_script.proofs.Continuations.{other_word, other_word-is, wide, wide_ideal, wide_nonconstant, wide_point, wide_polynomial}
 use Rattle.fj_script.proofs.GrammarPieces.{nothing_found}
 use Rattle.fj_script.proofs.GrammarSound.{Become, lines_take, same_prime, keyword_is, keyword_word, order_named, prime_takes}
 use Rattle.fj_script.proofs.NewNames.{pairs_more, unlike}
@@ -60,61 +61,76 @@ module _ (s0 : State) where
   ring_whole : (p : ℕ) (vs : List (List ℕ)) (us : List Token) → Contains primes p → Variables vs us → CanGoOn None (Word (codes "ring") ∷ Number p ∷ us)
   ring_whole p vs us known l = ([], new_session p vs, subst (λ ws. IsRing (Word (codes "ring") ∷ Number p ∷ ws) (new_session p vs)) (sym (append-nil us)) (grammar.ring known l.0 l.1 l.2))
 
-  -- behind a comma
+  -- behind a comma, with another variable
+  variable_next : (p : ℕ) (vs : List (List ℕ)) (us : List Token) → Contains primes p → Variables vs us → length vs < 7 → CanGoOnWith None (Word (codes "ring") ∷ Number p ∷ (us ++ Sign comma ∷ [])) (Word (other_word vs))
+  variable_next p vs us known l few =
+      let all = variables_more vs us (other_word vs) l few (other_word-is vs) in (
+        [],
+        new_session p (vs ++ other_word vs ∷ []),
+        subst (λ ws. IsRing (Word (codes "ring") ∷ Number p ∷ ws) (new_session p (vs ++ other_word vs ∷ []))) (sym (append_assoc us (Sign comma ∷ []) (Word (other_word vs) ∷ []))) (grammar.ring known all.0 all.1 all.2),
+      )
+
   ring_comma : (p : ℕ) (vs : List (List ℕ)) (us : List Token) → Contains primes p → Variables vs us → MayStand None (Word (codes "ring") ∷ Number p ∷ (us ++ Sign comma ∷ []))
   ring_comma p vs us known l = ⊎_elim less full (cases_lt (length vs) 7)
     where
       less : length vs < 7 → MayStand None (Word (codes "ring") ∷ Number p ∷ (us ++ Sign comma ∷ []))
-      less few =
-          let all = variables_more vs us (new_word vs) l few (new_word-is vs) in
-          inl (Word (new_word vs) ∷ [], new_session p (vs ++ new_word vs ∷ []), subst (λ ws. IsRing (Word (codes "ring") ∷ Number p ∷ ws) (new_session p (vs ++ new_word vs ∷ []))) (sym (append_assoc us (Sign comma ∷ []) (Word (new_word vs) ∷ []))) (grammar.ring known all.0 all.1 all.2))
+      less few = let x = variable_next p vs us known l few in inl (Word (other_word vs) ∷ x.0, x.1, x.2)
 
       full : 7 ≤ length vs → MayStand None (Word (codes "ring") ∷ Number p ∷ (us ++ Sign comma ∷ []))
       full many = inr (beginning.ring l.0 (omega (arith, many, l.1)))
 
+  ring_with_prime : CanGoOnWith None (Word (codes "ring") ∷ []) (Number 2)
+  ring_with_prime = (Word (other_word []) ∷ [], _, grammar.ring some_prime (one_variable (other_word [])).0 (one_variable (other_word [])).1 (one_variable (other_word [])).2)
+
   ring_begins : MayStand None (Word (codes "ring") ∷ [])
-  ring_begins = inl (Number 2 ∷ Word (new_word []) ∷ [], _, grammar.ring some_prime (one_variable (new_word [])).0 (one_variable (new_word [])).1 (one_variable (new_word [])).2)
+  ring_begins = inl (Number 2 ∷ ring_with_prime.0, ring_with_prime.1, ring_with_prime.2)
 
   prime_begins : (p : ℕ) → Contains primes p → MayStand None (Word (codes "ring") ∷ Number p ∷ [])
-  prime_begins p known = inl (Word (new_word []) ∷ [], _, grammar.ring known (one_variable (new_word [])).0 (one_variable (new_word [])).1 (one_variable (new_word [])).2)
+  prime_begins p known = inl (Word (other_word []) ∷ [], _, grammar.ring known (one_variable (other_word [])).0 (one_variable (other_word [])).1 (one_variable (other_word [])).2)
 
-  prime_reading : (t : State) → SoFar s0 (MayStand None) (Word (codes "ring") ∷ []) t
-      → Reading s0 (MayStand None) (λ (e : LineFault). e.column) (λ p us. (us ≡ Number p ∷ []) × Contains primes p) (Word (codes "ring") ∷ []) (rings.prime t)
+  prime_reading : (t : State) → SoFar s0 (behind_lines None) (Word (codes "ring") ∷ []) t
+      → Reading s0 (behind_lines None) (λ e. e) (λ p us. (us ≡ Number p ∷ []) × Contains primes p) (Word (codes "ring") ∷ []) (rings.prime t)
   unfolding rings.prime
-  prime_reading t H = reading_with s0 (MayStand None) (λ p. (tokens_left t ≡ Number p.0 ∷ tokens_left p.1) × Contains primes p.0) (rings.prime t) plain (prime_takes t) (λ p u us e h. (e, h.1))
+  prime_reading t H = reading_with s0 (behind_lines None) (λ p. (tokens_left t ≡ Number p.0 ∷ tokens_left p.1) × Contains primes p.0) (rings.prime t) plain (prime_takes t) (λ p u us e h. (e, h.1))
     where
-      plain : Reading s0 (MayStand None) (λ (e : LineFault). e.column) (λ p us. us ≡ Number p ∷ []) (Word (codes "ring") ∷ []) (rings.prime t)
+      plain : Reading s0 (behind_lines None) (λ e. e) (λ p us. us ≡ Number p ∷ []) (Word (codes "ring") ∷ []) (rings.prime t)
       plain =
-          then_reading s0 (MayStand None) (λ (e : LineFault). e.column) _ (number_reading s0 (MayStand None) (Word (codes "ring") ∷ []) t H ring_begins)
-          (λ n us u e Hu. reading_if s0 (MayStand None) (λ (e : LineFault). e.column) (rings.is_prime n) _ _ (λ _. read us e Hu) (λ _. stuck (late s0 (MayStand None) Hu)))
+          then_reading s0 (behind_lines None) (λ e. e) _ (number_reading s0 (behind_lines None) (Word (codes "ring") ∷ []) t H ring_begins)
+          (λ n us u e Hu. reading_if s0 (behind_lines None) (λ e. e) (rings.is_prime n) _ _ (λ _. read us e Hu) (λ _. stuck (late s0 (behind_lines None) Hu (numbers_at s0 (behind_lines None) {ws = Word (codes "ring") ∷ []} Hu e (2, inr (inl ring_with_prime))))))
 
   module _ (p : ℕ) (known : Contains primes p) where
-    variable_more : (vs : List (List ℕ)) (us : List Token) (t : State) → Variables vs us → SoFar s0 (MayStand None) ((Word (codes "ring") ∷ Number p ∷ []) ++ (us ++ Sign comma ∷ [])) t
-        → Reading s0 (MayStand None) (λ (e : LineFault). e.column) (λ w ws. Variables (vs ++ w ∷ []) ws) (Word (codes "ring") ∷ Number p ∷ []) (rings.variable vs t)
+    variable_more : (vs : List (List ℕ)) (us : List Token) (t : State) → Variables vs us → SoFar s0 (behind_lines None) ((Word (codes "ring") ∷ Number p ∷ []) ++ (us ++ Sign comma ∷ [])) t
+        → Reading s0 (behind_lines None) (λ e. e) (λ w ws. Variables (vs ++ w ∷ []) ws) (Word (codes "ring") ∷ Number p ∷ []) (rings.variable vs t)
     unfolding rings.variable
     variable_more vs us t l H =
-        then_reading s0 (MayStand None) (λ (e : LineFault). e.column) _
-        (behind s0 (MayStand None) (λ (e : LineFault). e.column) {Q = λ w ws. ws ≡ Word w ∷ []} {R = λ w ws. ws ≡ us ++ Sign comma ∷ Word w ∷ []} (Word (codes "ring") ∷ Number p ∷ []) (us ++ Sign comma ∷ []) _
-        (word_reading s0 (MayStand None) (Word (codes "ring") ∷ Number p ∷ (us ++ Sign comma ∷ [])) t H (ring_comma p vs us known l)) (λ w ws e. ap (λ xs. (us ++ Sign comma ∷ []) ++ xs) e ∙ append_assoc us (Sign comma ∷ []) (Word w ∷ [])))
-        (λ w ws u e Hu. reading_if s0 (MayStand None) (λ (e : LineFault). e.column) (leb 7 (length vs)) _ _ (λ _. stuck (late s0 (MayStand None) Hu))
-        (λ few. reading_if s0 (MayStand None) (λ (e : LineFault). e.column) (is_some (place_of vs w)) _ _ (λ _. stuck (late s0 (MayStand None) Hu))
+        then_reading s0 (behind_lines None) (λ e. e) _
+        (behind s0 (behind_lines None) (λ e. e) {Q = λ w ws. ws ≡ Word w ∷ []} {R = λ w ws. ws ≡ us ++ Sign comma ∷ Word w ∷ []} (Word (codes "ring") ∷ Number p ∷ []) (us ++ Sign comma ∷ []) _
+        (word_reading s0 (behind_lines None) (Word (codes "ring") ∷ Number p ∷ (us ++ Sign comma ∷ [])) t H (ring_comma p vs us known l)) (λ w ws e. ap (λ xs. (us ++ Sign comma ∷ []) ++ xs) e ∙ append_assoc us (Sign comma ∷ []) (Word w ∷ [])))
+        (λ w ws u e Hu. reading_if s0 (behind_lines None) (λ e. e) (leb 7 (length vs)) _ _ (λ _. stuck (late s0 (behind_lines None) Hu tt))
+        (λ few. reading_if s0 (behind_lines None) (λ e. e) (is_some (place_of vs w)) _ _ (λ _. stuck (late s0 (behind_lines None) Hu (words_there ws w e Hu (other_word vs, inr (inl (variable_next p vs us known l (leb-false 7 (length vs) few)))))))
         (λ new. read ws (subst (Variables (vs ++ w ∷ [])) (sym e) (variables_more vs us w l (leb-false 7 (length vs) few) (λ i d inside. unlike w vs (nothing_found _ new) i d inside))) Hu)))
+      where
+        words_there : (ws : List Token) (w : List ℕ) {u : State} → ws ≡ us ++ Sign comma ∷ Word w ∷ [] → (Hu : SoFar s0 (behind_lines None) ((Word (codes "ring") ∷ Number p ∷ []) ++ ws) u)
+            → Words s0 (behind_lines None) (Word (codes "ring") ∷ Number p ∷ (us ++ Sign comma ∷ [])) → Words s0 (behind_lines None) (toks Hu.init)
+        words_there ws w e Hu =
+            let split : (Word (codes "ring") ∷ Number p ∷ (us ++ Sign comma ∷ [])) ++ Word w ∷ [] ≡ (Word (codes "ring") ∷ Number p ∷ []) ++ ws = ap (λ vs. Word (codes "ring") ∷ Number p ∷ vs) (append_assoc us (Sign comma ∷ []) (Word w ∷ []) ∙ sym e) in
+            subst (Words s0 (behind_lines None)) (front_same (Word (codes "ring") ∷ Number p ∷ (us ++ Sign comma ∷ [])) (toks Hu.init) (Word w) Hu.last.token (split ∙ Hu.tokens))
 
-    variable_first : (t : State) → SoFar s0 (MayStand None) (Word (codes "ring") ∷ Number p ∷ []) t
-        → Reading s0 (MayStand None) (λ (e : LineFault). e.column) (λ w ws. Variables (w ∷ []) ws) (Word (codes "ring") ∷ Number p ∷ []) (rings.variable [] t)
+    variable_first : (t : State) → SoFar s0 (behind_lines None) (Word (codes "ring") ∷ Number p ∷ []) t
+        → Reading s0 (behind_lines None) (λ e. e) (λ w ws. Variables (w ∷ []) ws) (Word (codes "ring") ∷ Number p ∷ []) (rings.variable [] t)
     unfolding rings.variable
     variable_first t H =
-        then_reading s0 (MayStand None) (λ (e : LineFault). e.column) _ (word_reading s0 (MayStand None) (Word (codes "ring") ∷ Number p ∷ []) t H (prime_begins p known))
+        then_reading s0 (behind_lines None) (λ e. e) _ (word_reading s0 (behind_lines None) (Word (codes "ring") ∷ Number p ∷ []) t H (prime_begins p known))
         (λ w ws u e Hu. read ws (subst (Variables (w ∷ [])) (sym e) (one_variable w)) Hu)
 
-  ring_stopped : (t : State) → SoFar s0 (MayStand None) (Word (codes "ring") ∷ []) t → IsStopped s0 (MayStand None) (rings.ring t)
+  ring_stopped : (t : State) → SoFar s0 (behind_lines None) (Word (codes "ring") ∷ []) t → IsStopped s0 (behind_lines None) (rings.ring t)
   unfolding rings.ring
   ring_stopped t H =
-      stop_then s0 (MayStand None) _ (prime_reading t H)
-      (λ p us u h Hu. let Hp = subst (λ ws. SoFar s0 (MayStand None) (Word (codes "ring") ∷ ws) u) h.0 Hu in
-      stop_then s0 (MayStand None) _
-      (listed_reading s0 (MayStand None) Variables rings.variable (Word (codes "ring") ∷ Number p ∷ []) (λ vs ws l. inl (ring_whole p vs ws h.1 l)) (variable_more p h.1) u (variable_first p h.1 u Hp))
-      (λ vs ws w l Hw. stop_end s0 (MayStand None) _ _ w Hw (inl (ring_whole p vs ws h.1 l))))
+      stop_then s0 (behind_lines None) _ (prime_reading t H)
+      (λ p us u h Hu. let Hp = subst (λ ws. SoFar s0 (behind_lines None) (Word (codes "ring") ∷ ws) u) h.0 Hu in
+      stop_then s0 (behind_lines None) _
+      (listed_reading s0 (behind_lines None) Variables rings.variable (Word (codes "ring") ∷ Number p ∷ []) (λ vs ws l. inl (ring_whole p vs ws h.1 l)) (variable_more p h.1) u (variable_first p h.1 u Hp))
+      (λ vs ws w l Hw. stop_end s0 (behind_lines None) _ _ w Hw (inl (ring_whole p vs ws h.1 l))))
 
 -- ---- the other statements
 
@@ -143,34 +159,35 @@ wide_question S n (grammar.split h) = grammar.split (wide_ideal S n _ _ h)
 wide_question S n (grammar.compatible h k l) = grammar.compatible h (wide_polynomial S n _ _ k) (wide_ideal S n _ _ l)
 
 module _ (s0 : State) (S : Session) (known : Contains primes S.prime) (some_variable : 1 ≤ length S.variables) where
-  order_stopped : (t : State) → SoFar s0 (MayStand (Some S)) (Word (codes "order") ∷ []) t → IsStopped s0 (MayStand (Some S)) (statements.order S t)
+  order_stopped : (t : State) → SoFar s0 (behind_lines (Some S)) (Word (codes "order") ∷ []) t → IsStopped s0 (behind_lines (Some S)) (statements.order S t)
   unfolding statements.order
   order_stopped t H =
-      stop_then s0 (MayStand (Some S)) _ (word_reading s0 (MayStand (Some S)) (Word (codes "order") ∷ []) t H (inl (bare S, bare_alike S _, Word (codes "lex") ∷ [], _, grammar.lex)))
+      stop_then s0 (behind_lines (Some S)) _ (word_reading s0 (behind_lines (Some S)) (Word (codes "order") ∷ []) t H (inl (bare S, bare_alike S _, Word (codes "lex") ∷ [], _, grammar.lex)))
       (λ w us u e Hu. by w us e u Hu (statements.order_of w) refl)
     where
-      by : (w : List ℕ) (us : List Token) → us ≡ Word w ∷ [] → (u : State) → SoFar s0 (MayStand (Some S)) (Word (codes "order") ∷ us) u → (o : Option OrderName) → statements.order_of w ≡ o
-          → IsStopped s0 (MayStand (Some S)) (option_map_or (λ name. at_end (record S { order = name }, u)) o (Err (fault_at kinds.Syntax u)))
-      by w us e u Hu None is = late s0 (MayStand (Some S)) Hu
+      by : (w : List ℕ) (us : List Token) → us ≡ Word w ∷ [] → (u : State) → SoFar s0 (behind_lines (Some S)) (Word (codes "order") ∷ us) u → (o : Option OrderName) → statements.order_of w ≡ o
+          → IsStopped s0 (behind_lines (Some S)) (option_map_or (λ name. at_end (record S { order = name }, u)) o (Err (fault_at kinds.Syntax u)))
+      by w us e u Hu None is = late s0 (behind_lines (Some S)) Hu tt
       by w us e u Hu (Some name) is =
-          stop_end s0 (MayStand (Some S)) _ (Word (codes "order") ∷ Word w ∷ []) u (subst (λ vs. SoFar s0 (MayStand (Some S)) (Word (codes "order") ∷ vs) u) e Hu) (inl (bare S, bare_alike S _, [], _, order_named (bare S) known w name is))
+          stop_end s0 (behind_lines (Some S)) _ (Word (codes "order") ∷ Word w ∷ []) u (subst (λ vs. SoFar s0 (behind_lines (Some S)) (Word (codes "order") ∷ vs) u) e Hu) (inl (bare S, bare_alike S _, [], _, order_named (bare S) known w name is))
 
-  budget_stopped : (t : State) → SoFar s0 (MayStand (Some S)) (Word (codes "budget") ∷ []) t → IsStopped s0 (MayStand (Some S)) (statements.budget S t)
+  budget_stopped : (t : State) → SoFar s0 (behind_lines (Some S)) (Word (codes "budget") ∷ []) t → IsStopped s0 (behind_lines (Some S)) (statements.budget S t)
   unfolding statements.budget
   budget_stopped t H =
-      stop_then s0 (MayStand (Some S)) _ (within_reading s0 (MayStand (Some S)) 1 10000000 (Word (codes "budget") ∷ []) t H (inl (bare S, bare_alike S _, Number 1 ∷ [], _, grammar.budget (omega arith) (omega arith))))
-      (λ n us u h Hu. stop_end s0 (MayStand (Some S)) _ (Word (codes "budget") ∷ Number n ∷ []) u (subst (λ vs. SoFar s0 (MayStand (Some S)) (Word (codes "budget") ∷ vs) u) h.0 Hu) (inl (bare S, bare_alike S _, [], _, grammar.budget h.1.0 h.1.1)))
+      stop_then s0 (behind_lines (Some S)) _ (within_reading s0 (behind_lines (Some S)) 1 10000000 (Word (codes "budget") ∷ []) t H (inl (bare S, bare_alike S _, Number 1 ∷ [], _, grammar.budget (omega arith) (omega arith)))
+      (1, inr (inl (bare S, bare_alike S _, [], _, grammar.budget (omega arith) (omega arith)))))
+      (λ n us u h Hu. stop_end s0 (behind_lines (Some S)) _ (Word (codes "budget") ∷ Number n ∷ []) u (subst (λ vs. SoFar s0 (behind_lines (Some S)) (Word (codes "budget") ∷ vs) u) h.0 Hu) (inl (bare S, bare_alike S _, [], _, grammar.budget h.1.0 h.1.1)))
 
-  asking_stopped : (t : State) → SoFar s0 (MayStand (Some S)) (Word (codes "ask") ∷ []) t → IsStopped s0 (MayStand (Some S)) (statements.asking S t)
+  asking_stopped : (t : State) → SoFar s0 (behind_lines (Some S)) (Word (codes "ask") ∷ []) t → IsStopped s0 (behind_lines (Some S)) (statements.asking S t)
   unfolding statements.asking
   asking_stopped t H =
-      stop_if s0 (MayStand (Some S)) (leb 4096 (length S.asked)) _ _ (λ _. late s0 (MayStand (Some S)) H)
-      (λ _. stop_then s0 (MayStand (Some S)) _ (question_reading s0 S known t H)
-      (λ q us u h Hu. stop_end s0 (MayStand (Some S)) _ _ u Hu (ask_goes s0 S known us (λ n. ([], q, subst (λ ws. IsQuestion (wide S n) ws q) (sym (append-nil us)) (wide_question S n h))))))
+      stop_if s0 (behind_lines (Some S)) (leb 4096 (length S.asked)) _ _ (λ full. too_many s0 (behind_lines (Some S)) H (rank.questions (leb-true 4096 (length S.asked) full)))
+      (λ _. stop_then s0 (behind_lines (Some S)) _ (question_reading s0 S known t H)
+      (λ q us u h Hu. stop_end s0 (behind_lines (Some S)) _ _ u Hu (ask_goes s0 S known us (λ n. ([], q, subst (λ ws. IsQuestion (wide S n) ws q) (sym (append-nil us)) (wide_question S n h))))))
 
-  later_stopped : (k : Keyword) (t : State) → SoFar s0 (MayStand (Some S)) (Word (keyword_word k) ∷ []) t → IsStopped s0 (MayStand (Some S)) (statements.later (Some k) S t)
+  later_stopped : (k : Keyword) (t : State) → SoFar s0 (behind_lines (Some S)) (Word (keyword_word k) ∷ []) t → IsStopped s0 (behind_lines (Some S)) (statements.later (Some k) S t)
   unfolding statements.later keyword_word
-  later_stopped keywords.Ring t H = late s0 (MayStand (Some S)) H
+  later_stopped keywords.Ring t H = late s0 (behind_lines (Some S)) H tt
   later_stopped keywords.Order t H = order_stopped t H
   later_stopped keywords.Budget t H = budget_stopped t H
   later_stopped keywords.Poly t H = poly_stopped s0 S known some_variable t H
@@ -186,42 +203,42 @@ IsUsual None = Unit {0}
 IsUsual (Some S) = Contains primes S.prime × (1 ≤ length S.variables)
 
 nothing_stands : (before : Option Session) → IsUsual before → MayStand before []
-nothing_stands None h = inl (Word (codes "ring") ∷ Number 2 ∷ Word (new_word []) ∷ [], _, grammar.ring (some_prime (record { left = []; start = 0; end = 0 })) (grammar.last grammar.variable) (omega arith) (λ i j d less inside. absurd (omega (arith, less, inside))))
+nothing_stands None h = inl (Word (codes "ring") ∷ Number 2 ∷ Word (other_word []) ∷ [], _, grammar.ring (some_prime (record { left = []; start = 0; end = 0 })) (grammar.last grammar.variable) (omega arith) (λ i j d less inside. absurd (omega (arith, less, inside))))
 nothing_stands (Some S) h = inl (bare S, bare_alike S _, Word (codes "order") ∷ Word (codes "lex") ∷ [], _, grammar.lex)
 
-statement_of_stopped : (s0 : State) (before : Option Session) → IsUsual before → (k : Option Keyword) (w : List ℕ) → statements.keyword_of w ≡ k → (t : State) → SoFar s0 (MayStand before) (Word w ∷ []) t
-    → IsStopped s0 (MayStand before) (statements.statement_of before k t)
+statement_of_stopped : (s0 : State) (before : Option Session) → IsUsual before → (k : Option Keyword) (w : List ℕ) → statements.keyword_of w ≡ k → (t : State) → SoFar s0 (behind_lines before) (Word w ∷ []) t
+    → IsStopped s0 (behind_lines before) (statements.statement_of before k t)
 unfolding statements.first statements.later keyword_word
-statement_of_stopped s0 None h None w e t H = late s0 (MayStand None) H
-statement_of_stopped s0 None h (Some keywords.Ring) w e t H = ring_stopped s0 t (subst (λ v. SoFar s0 (MayStand None) (Word v ∷ []) t) (keyword_is w keywords.Ring e) H)
-statement_of_stopped s0 None h (Some keywords.Order) w e t H = late s0 (MayStand None) H
-statement_of_stopped s0 None h (Some keywords.Budget) w e t H = late s0 (MayStand None) H
-statement_of_stopped s0 None h (Some keywords.Poly) w e t H = late s0 (MayStand None) H
-statement_of_stopped s0 None h (Some keywords.Ideal) w e t H = late s0 (MayStand None) H
-statement_of_stopped s0 None h (Some keywords.Point) w e t H = late s0 (MayStand None) H
-statement_of_stopped s0 None h (Some keywords.Ask) w e t H = late s0 (MayStand None) H
-statement_of_stopped s0 (Some S) h None w e t H = late s0 (MayStand (Some S)) H
-statement_of_stopped s0 (Some S) h (Some k) w e t H = later_stopped s0 S h.0 h.1 k t (subst (λ v. SoFar s0 (MayStand (Some S)) (Word v ∷ []) t) (keyword_is w k e) H)
+statement_of_stopped s0 None h None w e t H = late s0 (behind_lines None) H tt
+statement_of_stopped s0 None h (Some keywords.Ring) w e t H = ring_stopped s0 t (subst (λ v. SoFar s0 (behind_lines None) (Word v ∷ []) t) (keyword_is w keywords.Ring e) H)
+statement_of_stopped s0 None h (Some keywords.Order) w e t H = late s0 (behind_lines None) H tt
+statement_of_stopped s0 None h (Some keywords.Budget) w e t H = late s0 (behind_lines None) H tt
+statement_of_stopped s0 None h (Some keywords.Poly) w e t H = late s0 (behind_lines None) H tt
+statement_of_stopped s0 None h (Some keywords.Ideal) w e t H = late s0 (behind_lines None) H tt
+statement_of_stopped s0 None h (Some keywords.Point) w e t H = late s0 (behind_lines None) H tt
+statement_of_stopped s0 None h (Some keywords.Ask) w e t H = late s0 (behind_lines None) H tt
+statement_of_stopped s0 (Some S) h None w e t H = late s0 (behind_lines (Some S)) H tt
+statement_of_stopped s0 (Some S) h (Some k) w e t H = later_stopped s0 S h.0 h.1 k t (subst (λ v. SoFar s0 (behind_lines (Some S)) (Word v ∷ []) t) (keyword_is w k e) H)
 
-statement_stopped : (s0 : State) (before : Option Session) → IsUsual before → (p : Placed) (rest : List Placed) → s0.left ≡ p ∷ rest → IsStopped s0 (MayStand before) (statements.statement before p.token (after p rest))
+statement_stopped : (s0 : State) (before : Option Session) → IsUsual before → (p : Placed) (rest : List Placed) → s0.left ≡ p ∷ rest → IsStopped s0 (behind_lines before) (statements.statement before p.token (after p rest))
 unfolding statements.statement word_of
 statement_stopped s0 before h p rest e = by p.token (record { init = []; last = p; all = e; tokens = refl; start = refl; end = refl; goes_on = nothing_stands before h })
   where
-    by : (tok : Token) → SoFar s0 (MayStand before) (tok ∷ []) (after p rest) → IsStopped s0 (MayStand before) (statements.statement before tok (after p rest))
+    by : (tok : Token) → SoFar s0 (behind_lines before) (tok ∷ []) (after p rest) → IsStopped s0 (behind_lines before) (statements.statement before tok (after p rest))
     by (Word w) H = statement_of_stopped s0 before h (statements.keyword_of w) w refl (after p rest) H
-    by (Number n) H = late s0 (MayStand before) H
-    by (Sign b) H = late s0 (MayStand before) H
-    by BadByte H = late s0 (MayStand before) H
+    by (Number n) H = late s0 (behind_lines before) H tt
+    by (Sign b) H = late s0 (behind_lines before) H tt
+    by BadByte H = late s0 (behind_lines before) H tt
 
 -- A line stops at its fault.
-line_stuck : (before : Option Session) → IsUsual before → (ts : List Placed) (f : LineFault) → line_from before (record { left = ts; start = 0; end = 0 }) ≡ Err f → Stuck (record { left = ts; start = 0; end = 0 }) (MayStand before) f.column
+line_stuck : (before : Option Session) → IsUsual before → (ts : List Placed) (f : LineFault) → line_from before (record { left = ts; start = 0; end = 0 }) ≡ Err f → Stuck (record { left = ts; start = 0; end = 0 }) (behind_lines before) f
 unfolding next
 line_stuck before h [] f e = absurd cc
 line_stuck before h (p ∷ rest) f e = by (statements.statement before p.token (after p rest)) (statement_stopped (record { left = p ∷ rest; start = 0; end = 0 }) before h p rest refl) e
   where
-    by : (r : Result Session LineFault) → IsStopped (record { left = p ∷ rest; start = 0; end = 0 }) (MayStand before) r → (r >>= λ S. Ok (Some S)) ≡ Err f → Stuck (record { left = p ∷ rest; start = 0; end = 0 }) (MayStand before) f.column
+    by : (r : Result Session LineFault) → IsStopped (record { left = p ∷ rest; start = 0; end = 0 }) (behind_lines before) r → (r >>= λ S. Ok (Some S)) ≡ Err f → Stuck (record { left = p ∷ rest; start = 0; end = 0 }) (behind_lines before) f
     by (Ok S) k e = absurd cc
-    by (Err g) k e = let same : g ≡ f = cc in subst (λ h. Stuck (record { left = p ∷ rest; start = 0; end = 0 }) (MayStand before) h.column) same k
+    by (Err g) k e = let same : g ≡ f = cc in subst (λ h. Stuck (record { left = p ∷ rest; start = 0; end = 0 }) (behind_lines before) h) same k
 
 -- ---- the tokens before the place
 
@@ -231,7 +248,7 @@ filter_front column (p ∷ ps) rest low none =
     let here : starts_before column p ≡ true = lt-ltb (p.start + 1) column (low 0 p (omega arith)) in
     ap (λ c. cond c (p ∷ filter (starts_before column) (ps ++ rest)) (filter (starts_before column) (ps ++ rest))) here ∙ ap (λ us. p ∷ us) (filter_front column ps rest (λ i d inside. low (suc i) d (omega arith)) none)
 
-before_is : (line : List ℕ) (c : ℕ) (ps rest : List Placed) → tokens_from zero zero line ≡ ps ++ rest → StandsAt c rest (end_of ps 0) → tokens_before (c + 1) line ≡ ps
+pub before_is : (line : List ℕ) (c : ℕ) (ps rest : List Placed) → tokens_from zero zero line ≡ ps ++ rest → StandsAt c rest (end_of ps 0) → tokens_before (c + 1) line ≡ ps
 before_is line c ps rest all at =
     ap (filter (starts_before (c + 1))) all ∙ filter_front (c + 1) ps rest (λ i d inside. let below = starts_below 0 ps rest rises i d inside in omega (arith, below, ends rest at behind)) (later rest at behind)
   where
@@ -307,6 +324,10 @@ made_before bytes place w =
     subst (λ n. MakeSession (map tokens_of (take n (lines bytes))) w.session) (sym count_is)
     (makes (take w.count (lines bytes)) w.session (w.reached (take w.count (lines bytes)) (take_twice w.count (lines bytes)) ∙ ap (from_line (1 + w.count) w.session) (drop_taken w.count (lines bytes)) ∙ ended (1 + w.count) w.session))
 
+-- what is said of the line of a fault
+pub stuck_at : (bytes : List ℕ) (place : Fault) (w : FirstWrong 1 None (lines bytes) place) → Stuck (record { left = tokens_from zero zero (get_or (lines bytes) w.count []); start = 0; end = 0 }) (behind_lines w.session) w.found
+stuck_at bytes place w = line_stuck w.session (make_usual _ w.session (made_before bytes place w)) (tokens_from zero zero (get_or (lines bytes) w.count [])) w.found (sym (line_is w.session (get_or (lines bytes) w.count [])) ∙ w.wrong)
+
 pub beginning_legal : BeginningIsLegal
 beginning_legal bytes place H e =
     let w = first_wrong 1 None (lines bytes) place (lines_wrong bytes place H e) in
@@ -315,7 +336,7 @@ beginning_legal bytes place H e =
     let column_is : place.column ≡ w.found.column + 1 = ap (λ f. f.column) w.is in
     let l : List ℕ = get_or (lines bytes) w.count [] in
     let made = made_before bytes place w in
-    let K = line_stuck w.session (make_usual _ w.session made) (tokens_from zero zero l) w.found (sym (line_is w.session l) ∙ w.wrong) in
+    let K = stuck_at bytes place w in
     let tokens : tokens_before place.column (line_at place.line bytes) ≡ K.before =
     ap (λ n. tokens_before n (line_at place.line bytes)) column_is ∙ ap (λ n. tokens_before (w.found.column + 1) (get_or (lines bytes) n [])) count_is ∙ before_is l w.found.column K.before K.rest K.all K.at in (
       w.session,

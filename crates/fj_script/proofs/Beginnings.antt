@@ -1,26 +1,29 @@
 -- What was read before a fault can go on: how far a line was read, and expressions.
-use Rattle.std.proofs.Common.{◌≡◌, ℕ, zero, suc, ◌≤◌, Bool, true, false, cond, eqb, ltb, List, [], ◌∷◌, ◌++◌, length, map, Option, Some, None, Result, Ok, Err, refl, sym, ap, ◌∙◌, subst, arith, append_assoc, inl, inr, ◌⊎◌}
+use Rattle.std.proofs.Common.{◌≡◌, ℕ, zero, suc, ◌%◌, ◌≤◌, Bool, true, false, cond, eqb, ltb, List, [], ◌∷◌, ◌++◌, length, map, Option, Some, None, Result, Ok, Err, refl, sym, ap, ◌∙◌, subst, arith, append_assoc, inl, inr, ◌⊎◌}
 use Rattle.std.specs.FinMap.{empty}
 use Rattle.std.specs.Option.{option_map, option_map_or}
 use Rattle.std.proofs.lemmas.Bool.{eqb-true, leb-false, ltb-false}
-use Rattle.std.proofs.lemmas.List.{append-nil, map-append}
+use Rattle.std.proofs.lemmas.List.{append-nil, length-append, map-append}
 use Rattle.std.proofs.lemmas.Option.{same_Some}
 use Rattle.fj_coeff.specs.Field.{Field, IsField}
 use Rattle.fj_theory.specs.Exponents.{origin}
+use Rattle.fj_theory.specs.PointIdeal.{variable_exponents}
 use Rattle.fj_theory.specs.Polynomial.{Polynomial, IsPolynomial, negation, power, product, sum, term}
 use Rattle.fj_theory.proofs.Polynomial.{IsPolynomial-sum}
 use Rattle.fj_theory.proofs.Product.{IsPolynomial-product}
 use Rattle.fj_theory.proofs.PolynomialRing.{IsPolynomial-negation, IsPolynomial-power, power_first, power_zero, product_empty, product_one, sum_empty}
-use Rattle.fj_text.specs.declared.fault.Fault as faults
 use Rattle.fj_text.specs.declared.scope.Meaning.{Meaning}
 use Rattle.fj_text.specs.declared.scope.Meaning.TheVariants as meanings
 use Rattle.fj_text.specs.Expression as text
 use Rattle.fj_text.specs.Grammar as grammar
 use Rattle.fj_text.specs.Grammar.{IsAtom, IsExpression, IsFactor, IsTerm, IsWithinLimits}
-use Rattle.fj_text.specs.State.{State, after, after_sign, end_of, is_the_sign, next, unexpected}
+use Rattle.fj_text.specs.State.{State, after, after_sign, blame, end_of, is_the_sign, next, unexpected}
 use Rattle.fj_text.specs.Token.{Token, Word, Number, Sign, BadByte, Placed, caret, closing, minus, opening, plus, star}
 use Rattle.fj_text.proofs.Grammars.{IsPolynomial-factor, power-small, within-small}
-use Rattle.fj_script.specs.LineFault.{◌>>=◌}
+use Rattle.fj_script.specs.declared.fault.FaultKind.{FaultKind}
+use Rattle.fj_script.specs.declared.fault.FaultKind.TheVariants as kinds
+use Rattle.fj_script.specs.declared.fault.LineFault.{LineFault}
+use Rattle.fj_script.specs.LineFault.{◌>>=◌, fault_of, kind_of}
 use Rattle.fj_script.proofs.FineValues.{IsFine, fine_constant, fine_empty, fine_negation, fine_one, fine_variable, negation_empty, zero_is_empty}
 
 abbrev pub toks : List Placed → List Token
@@ -34,8 +37,20 @@ pub end_last : (ts : List Placed) (t : Placed) (e : ℕ) → end_of (ts ++ t ∷
 end_last [] t e = refl
 end_last (u ∷ us) t e = end_last us t u.end
 
--- Tokens can go on where V holds. A line was read from the state s0 on.
-module _ (s0 : State) (V : List Token → Type 0) where
+pub front_same : (ts us : List Token) (a b : Token) → ts ++ a ∷ [] ≡ us ++ b ∷ [] → ts ≡ us
+front_same [] [] a b e = refl
+front_same [] (u ∷ us) a b e = let long = ap length e in absurd (omega (arith, long, length-append us (b ∷ [])))
+front_same (t ∷ ts) [] a b e = let long = ap length e in absurd (omega (arith, long, length-append ts (a ∷ [])))
+front_same (t ∷ ts) (u ∷ us) a b e = let rest : ts ++ a ∷ [] ≡ us ++ b ∷ [] = cc in let first : t ≡ u = cc in let same = front_same ts us a b rest in cc
+
+-- What may be said of tokens: that they can go on, that they can go on with a token, and that there are too many at the last one.
+pub record Sayings : Type 1 where
+  pub Goes : List Token → Type 0
+  pub Next : List Token → Token → Type 0
+  pub Many : List Token → Type 0
+
+-- A line was read from the state s0 on.
+module _ (s0 : State) (V : Sayings) where
   -- So far these tokens were read, and before the last one they could go on.
   pub record SoFar (ts : List Token) (t : State) : Type 0 where
     pub init : List Placed
@@ -44,23 +59,60 @@ module _ (s0 : State) (V : List Token → Type 0) where
     pub tokens : ts ≡ toks init ++ last.token ∷ []
     pub start : t.start ≡ last.start
     pub end : t.end ≡ last.end
-    pub goes_on : V (toks init)
+    pub goes_on : V.Goes (toks init)
 
-  -- A fault stands at this column, and the tokens before it can go on.
-  pub record Stuck (c : ℕ) : Type 0 where
+  -- Tokens can go on with a number, or with a word.
+  abbrev pub Numbers : List Token → Type 0
+  Numbers ts = (n : ℕ) × (V.Goes (ts ++ Number n ∷ []) ⊎ V.Next ts (Number n))
+
+  abbrev pub Words : List Token → Type 0
+  Words ts = (w : List ℕ) × (V.Goes (ts ++ Word w ∷ []) ⊎ V.Next ts (Word w))
+
+  -- What is said of the tokens before a fault of this kind, and of those from its place on.
+  abbrev pub Fits : FaultKind → List Token → List Token → Type 0
+  Fits kinds.Prime ts us = Numbers ts
+  Fits kinds.Wide ts us = Numbers ts
+  Fits kinds.Range ts us = Numbers ts
+  Fits kinds.Taken ts us = Words ts
+  Fits kinds.Unknown ts us = Words ts
+  Fits kinds.Kind ts us = Words ts
+  Fits kinds.Constant ts us = Words ts
+  Fits kinds.Many ts us = (t : Token) × (vs : List Token) × (us ≡ t ∷ vs) × V.Many (ts ++ t ∷ [])
+  Fits kinds.Long ts us = Unit {0}
+  Fits kinds.Byte ts us = Unit {0}
+  Fits kinds.Syntax ts us = Unit {0}
+  Fits kinds.NoRing ts us = Unit {0}
+  Fits kinds.Vars ts us = Unit {0}
+  Fits kinds.Large ts us = Unit {0}
+  Fits kinds.Arity ts us = Unit {0}
+
+  -- A fault stands at its column, and the tokens before it can go on.
+  pub record Stuck (f : LineFault) : Type 0 where
     pub before : List Placed
     pub rest : List Placed
     pub all : s0.left ≡ before ++ rest
-    pub at : StandsAt c rest (end_of before s0.end)
-    pub goes_on : V (toks before)
+    pub at : StandsAt f.column rest (end_of before s0.end)
+    pub goes_on : V.Goes (toks before)
+    pub fits : Fits f.kind (toks before) (toks rest)
 
   -- What was read behind these tokens, or such a fault.
-  pub data Reading {E A : Type 0} (place : E → ℕ) (Q : A → List Token → Type 0) (ts : List Token) : Result (A × State) E → Type 0 where
-    read : {x : A} {u : State} (us : List Token) → Q x us → SoFar (ts ++ us) u → Reading place Q ts (Ok (x, u))
-    stuck : {e : E} → Stuck (place e) → Reading place Q ts (Err e)
+  pub data Reading {E A : Type 0} (fault : E → LineFault) (Q : A → List Token → Type 0) (ts : List Token) : Result (A × State) E → Type 0 where
+    read : {x : A} {u : State} (us : List Token) → Q x us → SoFar (ts ++ us) u → Reading fault Q ts (Ok (x, u))
+    stuck : {e : E} → Stuck (fault e) → Reading fault Q ts (Err e)
 
-  pub late : {ts : List Token} {t : State} → SoFar ts t → Stuck t.start
-  late {ts} {t} H = record { before = H.init; rest = H.last ∷ t.left; all = H.all; at = H.start; goes_on = H.goes_on }
+  -- a fault at the token that was taken last
+  pub late : {k : FaultKind} {ts : List Token} {t : State} (H : SoFar ts t) → Fits k (toks H.init) (H.last.token ∷ toks t.left) → Stuck (record { kind = k; column = t.start })
+  late {k} {ts} {t} H fits = record { before = H.init; rest = H.last ∷ t.left; all = H.all; at = H.start; goes_on = H.goes_on; fits = fits }
+
+  -- before a number, and before a word
+  pub numbers_at : {ws us : List Token} {n : ℕ} {u : State} (H : SoFar (ws ++ us) u) → us ≡ Number n ∷ [] → Numbers ws → Numbers (toks H.init)
+  numbers_at {ws} {us} {n} H e k = subst Numbers (front_same ws (toks H.init) (Number n) H.last.token (ap (λ vs. ws ++ vs) (sym e) ∙ H.tokens)) k
+
+  pub words_at : {ws us : List Token} {w : List ℕ} {u : State} (H : SoFar (ws ++ us) u) → us ≡ Word w ∷ [] → Words ws → Words (toks H.init)
+  words_at {ws} {us} {w} H e k = subst Words (front_same ws (toks H.init) (Word w) H.last.token (ap (λ vs. ws ++ vs) (sym e) ∙ H.tokens)) k
+
+  pub too_many : {ts : List Token} {t : State} → SoFar ts t → V.Many ts → Stuck (record { kind = kinds.Many; column = t.start })
+  too_many {ts} {t} H many = late H (H.last.token, toks t.left, refl, subst V.Many H.tokens many)
 
   pub tokens_all : {ts : List Token} {t : State} (H : SoFar ts t) → ts ≡ toks (H.init ++ H.last ∷ [])
   tokens_all H = H.tokens ∙ sym (map-append (λ (t : Placed). t.token) H.init (H.last ∷ []))
@@ -68,15 +120,30 @@ module _ (s0 : State) (V : List Token → Type 0) where
   pub all_left : {ts : List Token} {t : State} (H : SoFar ts t) → s0.left ≡ (H.init ++ H.last ∷ []) ++ t.left
   all_left {ts} {t} H = H.all ∙ sym (append_assoc H.init (H.last ∷ []) t.left)
 
-  pub wrong_next : {ts : List Token} {t : State} → SoFar ts t → V ts → Stuck (unexpected t).place
+  -- Of a token that may not stand there nothing is said.
+  pub unexpected_fits : (ts : List Token) (t : State) → Fits (fault_of (unexpected t)).kind ts (toks t.left)
   unfolding unexpected
-  wrong_next {ts} {t} H v = record { before = H.init ++ H.last ∷ []; rest = t.left; all = all_left H; at = by t.left; goes_on = subst V (tokens_all H) v }
+  unexpected_fits ts t = by t.left
+    where
+      of_token : (tok : Token) (us : List Token) → Fits (kind_of (blame tok)) ts us
+      of_token (Word w) us = tt
+      of_token (Number n) us = tt
+      of_token (Sign b) us = tt
+      of_token BadByte us = tt
+
+      by : (us : List Placed) → Fits (fault_of (unexpected (record { left = us; start = t.start; end = t.end }))).kind ts (toks us)
+      by [] = tt
+      by (u ∷ us) = of_token u.token (toks (u ∷ us))
+
+  pub wrong_next : {ts : List Token} {t : State} → SoFar ts t → V.Goes ts → Stuck (fault_of (unexpected t))
+  unfolding unexpected
+  wrong_next {ts} {t} H v = record { before = H.init ++ H.last ∷ []; rest = t.left; all = all_left H; at = by t.left; goes_on = subst V.Goes (tokens_all H) v; fits = unexpected_fits (toks (H.init ++ H.last ∷ [])) t }
     where
       by : (us : List Placed) → StandsAt (unexpected (record { left = us; start = t.start; end = t.end })).place us (end_of (H.init ++ H.last ∷ []) s0.end)
       by [] = H.end ∙ sym (end_last H.init H.last s0.end)
       by (u ∷ us) = refl
 
-  pub taken : {ts : List Token} {t : State} → SoFar ts t → V ts → (p : Placed) (rest : List Placed) → t.left ≡ p ∷ rest → SoFar (ts ++ p.token ∷ []) (after p rest)
+  pub taken : {ts : List Token} {t : State} → SoFar ts t → V.Goes ts → (p : Placed) (rest : List Placed) → t.left ≡ p ∷ rest → SoFar (ts ++ p.token ∷ []) (after p rest)
   taken H v p rest e = record {
     init = H.init ++ H.last ∷ [];
     last = p;
@@ -84,7 +151,7 @@ module _ (s0 : State) (V : List Token → Type 0) where
     tokens = ap (λ us. us ++ p.token ∷ []) (tokens_all H);
     start = refl;
     end = refl;
-    goes_on = subst V (tokens_all H) v;
+    goes_on = subst V.Goes (tokens_all H) v;
   }
 
   pub regrouped : (ts us vs : List Token) {t : State} → SoFar ((ts ++ us) ++ vs) t → SoFar (ts ++ (us ++ vs)) t
@@ -93,7 +160,7 @@ module _ (s0 : State) (V : List Token → Type 0) where
   pub ungrouped : (ts us vs : List Token) {t : State} → SoFar (ts ++ (us ++ vs)) t → SoFar ((ts ++ us) ++ vs) t
   ungrouped ts us vs {t} H = subst (λ ws. SoFar ws t) (sym (append_assoc ts us vs)) H
 
-  pub sign_taken : {ws : List Token} (b : ℕ) (t u : State) → SoFar ws t → V ws → after_sign b t ≡ Some u → SoFar (ws ++ Sign b ∷ []) u
+  pub sign_taken : {ws : List Token} (b : ℕ) (t u : State) → SoFar ws t → V.Goes ws → after_sign b t ≡ Some u → SoFar (ws ++ Sign b ∷ []) u
   unfolding after_sign next
   sign_taken {ws} b t u H v is = by t.left refl is
     where
@@ -111,37 +178,37 @@ module _ (s0 : State) (V : List Token → Type 0) where
       by [] e h = absurd cc
       by (p ∷ rest) e h = test p rest p.token (taken H v p rest e) h
 
-  module _ {E : Type 0} (place : E → ℕ) where
+  module _ {E : Type 0} (fault : E → LineFault) where
     -- what was read behind more tokens
-    pub behind : {A : Type 0} {Q R : A → List Token → Type 0} (ts us : List Token) (r : Result (A × State) E) → Reading place Q (ts ++ us) r → ((x : A) (vs : List Token) → Q x vs → R x (us ++ vs)) → Reading place R ts r
+    pub behind : {A : Type 0} {Q R : A → List Token → Type 0} (ts us : List Token) (r : Result (A × State) E) → Reading fault Q (ts ++ us) r → ((x : A) (vs : List Token) → Q x vs → R x (us ++ vs)) → Reading fault R ts r
     behind ts us r (read vs h H) f = read (us ++ vs) (f _ vs h) (regrouped ts us vs H)
     behind ts us r (stuck H) f = stuck H
 
     pub then_reading : {A B : Type 0} {Q : A → List Token → Type 0} {R : B → List Token → Type 0} {ts : List Token} {r : Result (A × State) E} (f : A × State → Result (B × State) E)
-        → Reading place Q ts r → ((x : A) (us : List Token) (u : State) → Q x us → SoFar (ts ++ us) u → Reading place R ts (f (x, u))) → Reading place R ts (r >>= f)
+        → Reading fault Q ts r → ((x : A) (us : List Token) (u : State) → Q x us → SoFar (ts ++ us) u → Reading fault R ts (f (x, u))) → Reading fault R ts (r >>= f)
     then_reading f (read {x = x} {u = u} us h H) k = k x us u h H
     then_reading f (stuck H) k = stuck H
 
-    pub reading_if : {A : Type 0} {Q : A → List Token → Type 0} {ts : List Token} (b : Bool) (x y : Result (A × State) E) → (b ≡ true → Reading place Q ts x) → (b ≡ false → Reading place Q ts y) → Reading place Q ts (cond b x y)
+    pub reading_if : {A : Type 0} {Q : A → List Token → Type 0} {ts : List Token} (b : Bool) (x y : Result (A × State) E) → (b ≡ true → Reading fault Q ts x) → (b ≡ false → Reading fault Q ts y) → Reading fault Q ts (cond b x y)
     reading_if true x y p q = p refl
     reading_if false x y p q = q refl
 
     -- the next token
-    pub reading_next : {A : Type 0} {Q : A → List Token → Type 0} {ts ws : List Token} {t : State} (f : Token × State → Result (A × State) E) (wrong : E) → place wrong ≡ (unexpected t).place → SoFar ws t → V ws
-        → ((tok : Token) (u : State) → SoFar (ws ++ tok ∷ []) u → Reading place Q ts (f (tok, u))) → Reading place Q ts (option_map_or f (next t) (Err wrong))
+    pub reading_next : {A : Type 0} {Q : A → List Token → Type 0} {ts ws : List Token} {t : State} (f : Token × State → Result (A × State) E) (wrong : E) → fault wrong ≡ fault_of (unexpected t) → SoFar ws t → V.Goes ws
+        → ((tok : Token) (u : State) → SoFar (ws ++ tok ∷ []) u → Reading fault Q ts (f (tok, u))) → Reading fault Q ts (option_map_or f (next t) (Err wrong))
     unfolding next
     reading_next {A} {Q} {ts} {ws} {t} f wrong is H v each = by t.left refl
       where
-        by : (us : List Placed) → t.left ≡ us → Reading place Q ts (option_map_or f (next (record { left = us; start = t.start; end = t.end })) (Err wrong))
+        by : (us : List Placed) → t.left ≡ us → Reading fault Q ts (option_map_or f (next (record { left = us; start = t.start; end = t.end })) (Err wrong))
         by [] e = stuck (subst Stuck (sym is) (wrong_next H v))
         by (p ∷ rest) e = each p.token (after p rest) (taken H v p rest e)
 
     -- a sign, where it is next
-    pub reading_sign : {A : Type 0} {Q : A → List Token → Type 0} {ts ws : List Token} {t : State} (b : ℕ) (f : State → Result (A × State) E) (d : Result (A × State) E) → SoFar ws t → V ws
-        → ((u : State) → SoFar (ws ++ Sign b ∷ []) u → Reading place Q ts (f u)) → Reading place Q ts d → Reading place Q ts (option_map_or f (after_sign b t) d)
+    pub reading_sign : {A : Type 0} {Q : A → List Token → Type 0} {ts ws : List Token} {t : State} (b : ℕ) (f : State → Result (A × State) E) (d : Result (A × State) E) → SoFar ws t → V.Goes ws
+        → ((u : State) → SoFar (ws ++ Sign b ∷ []) u → Reading fault Q ts (f u)) → Reading fault Q ts d → Reading fault Q ts (option_map_or f (after_sign b t) d)
     reading_sign {A} {Q} {ts} {ws} {t} b f d H v some none = by (after_sign b t) refl
       where
-        by : (o : Option State) → after_sign b t ≡ o → Reading place Q ts (option_map_or f o d)
+        by : (o : Option State) → after_sign b t ≡ o → Reading fault Q ts (option_map_or f o d)
         by None e = none
         by (Some u) e = some u (sign_taken b t u H v e)
 
@@ -149,19 +216,19 @@ module _ (s0 : State) (V : List Token → Type 0) where
 
   -- Again and again a turn, and each time what was read is such a value.
   repeat_reading : {A : Type 0} (turn : A → State → Option (text.Answer A)) (W : A → List Token → Type 0) (ts : List Token)
-      → ((x : A) (us : List Token) (t : State) (r : text.Answer A) → W x us → SoFar (ts ++ us) t → turn x t ≡ Some r → Reading (λ (e : faults.Fault). e.place) W ts r)
-      → (n : ℕ) (x : A) (us : List Token) (t : State) → W x us → SoFar (ts ++ us) t → Reading (λ (e : faults.Fault). e.place) W ts (text.repeat turn n x t)
+      → ((x : A) (us : List Token) (t : State) (r : text.Answer A) → W x us → SoFar (ts ++ us) t → turn x t ≡ Some r → Reading fault_of W ts r)
+      → (n : ℕ) (x : A) (us : List Token) (t : State) → W x us → SoFar (ts ++ us) t → Reading fault_of W ts (text.repeat turn n x t)
   unfolding text.repeat
   repeat_reading turn W ts each zero x us t w H = read us w H
   repeat_reading {A} turn W ts each (suc n) x us t w H = by (turn x t) refl (repeat_reading turn W ts each n)
     where
-      by : (o : Option (text.Answer A)) → turn x t ≡ o → ((x : A) (us : List Token) (t : State) → W x us → SoFar (ts ++ us) t → Reading (λ (e : faults.Fault). e.place) W ts (text.repeat turn n x t))
-          → Reading (λ (e : faults.Fault). e.place) W ts (option_map_or (λ a. a >>= λ r. text.repeat turn n r.0 r.1) o (Ok (x, t)))
+      by : (o : Option (text.Answer A)) → turn x t ≡ o → ((x : A) (us : List Token) (t : State) → W x us → SoFar (ts ++ us) t → Reading fault_of W ts (text.repeat turn n x t))
+          → Reading fault_of W ts (option_map_or (λ a. a >>= λ r. text.repeat turn n r.0 r.1) o (Ok (x, t)))
       by None e rec = read us w H
-      by (Some r) e rec = then_reading (λ (e : faults.Fault). e.place) (λ r. text.repeat turn n r.0 r.1) (each x us t r w H e) (λ y vs u k K. rec y vs u k K)
+      by (Some r) e rec = then_reading fault_of (λ r. text.repeat turn n r.0 r.1) (each x us t r w H e) (λ y vs u k K. rec y vs u k K)
 
-  formed_reading : {W : Polynomial → List Token → Type 0} (ts us : List Token) (o : Option Polynomial) (u : State) → SoFar (ts ++ us) u → ((f : Polynomial) → o ≡ Some f → W f us) → Reading (λ (e : faults.Fault). e.place) W ts (text.formed o u)
-  formed_reading ts us None u H w = stuck (late H)
+  formed_reading : {W : Polynomial → List Token → Type 0} (ts us : List Token) (o : Option Polynomial) (u : State) → SoFar (ts ++ us) u → ((f : Polynomial) → o ≡ Some f → W f us) → Reading fault_of W ts (text.formed o u)
+  formed_reading ts us None u H w = stuck (late H tt)
   formed_reading ts us (Some f) u H w = read us (w f refl) H
 
 module _ {F : Field} (L : IsField F) (meaning : List ℕ → Meaning) where
@@ -263,73 +330,84 @@ module _ {F : Field} (L : IsField F) (meaning : List ℕ → Meaning) where
 
   -- ---- what is read of an expression, where its beginnings can go on
 
-  module _ (s0 : State) (V : List Token → Type 0) where
+  module _ (s0 : State) (V : Sayings) (name : List ℕ) (place : ℕ) (named : meaning name ≡ meanings.Variable place) where
     -- What is read behind an opening parenthesis.
     abbrev Inside : ℕ → Type 0
-    Inside d = (ts : List Token) (u : State) → SoFar s0 V ts u → ((us : List Token) → GoesOnFactor d (Sign opening ∷ us) → V (ts ++ us))
-        → Reading s0 V (λ (e : faults.Fault). e.place) (λ f us. Atom d f (Sign opening ∷ us)) ts (text.parenthesised F meaning d u)
+    Inside d = (ts : List Token) (u : State) → SoFar s0 V ts u → ((us : List Token) → GoesOnFactor d (Sign opening ∷ us) → V.Goes (ts ++ us))
+        → Reading s0 V fault_of (λ f us. Atom d f (Sign opening ∷ us)) ts (text.parenthesised F meaning d u)
 
-    at_once : (ts : List Token) → V (ts ++ []) → V ts
-    at_once ts v = subst V (append-nil ts) v
+    at_once : (ts : List Token) → V.Goes (ts ++ []) → V.Goes ts
+    at_once ts v = subst V.Goes (append-nil ts) v
 
-    behind_one : (ts us : List Token) (tok : Token) → V (ts ++ tok ∷ us) → V ((ts ++ tok ∷ []) ++ us)
-    behind_one ts us tok v = subst V (sym (append_assoc ts (tok ∷ []) us)) v
+    behind_one : (ts us : List Token) (tok : Token) → V.Goes (ts ++ tok ∷ us) → V.Goes ((ts ++ tok ∷ []) ++ us)
+    behind_one ts us tok v = subst V.Goes (sym (append_assoc ts (tok ∷ []) us)) v
 
-    behind_more : (ts us vs : List Token) (tok : Token) → V (ts ++ (us ++ tok ∷ vs)) → V ((ts ++ (us ++ tok ∷ [])) ++ vs)
-    behind_more ts us vs tok v = subst V (sym (append_assoc ts (us ++ tok ∷ []) vs ∙ ap (λ ws. ts ++ ws) (append_assoc us (tok ∷ []) vs))) v
+    behind_more : (ts us vs : List Token) (tok : Token) → V.Goes (ts ++ (us ++ tok ∷ vs)) → V.Goes ((ts ++ (us ++ tok ∷ [])) ++ vs)
+    behind_more ts us vs tok v = subst V.Goes (sym (append_assoc ts (us ++ tok ∷ []) vs ∙ ap (λ ws. ts ++ ws) (append_assoc us (tok ∷ []) vs))) v
 
     module _ (d : ℕ) (I : Inside d) where
-      atom_reading : (ts : List Token) (t : State) → SoFar s0 V ts t → ((us : List Token) → GoesOnFactor d us → V (ts ++ us))
-          → Reading s0 V (λ (e : faults.Fault). e.place) (Atom d) ts (text.atom F meaning (text.parenthesised F meaning d) t)
+      atom_reading : (ts : List Token) (t : State) → SoFar s0 V ts t → ((us : List Token) → GoesOnFactor d us → V.Goes (ts ++ us))
+          → Reading s0 V fault_of (Atom d) ts (text.atom F meaning (text.parenthesised F meaning d) t)
       unfolding text.atom text.atom_of text.constant text.variable
-      atom_reading ts t H K = reading_next s0 V (λ (e : faults.Fault). e.place) (λ t. text.atom_of F meaning (text.parenthesised F meaning d) t.0 t.1) (unexpected t) refl H (at_once ts (K [] (factor_default d))) each
+      atom_reading ts t H K = reading_next s0 V fault_of (λ t. text.atom_of F meaning (text.parenthesised F meaning d) t.0 t.1) (unexpected t) refl H (at_once ts (K [] (factor_default d))) each
         where
-          known : (w : List ℕ) (u : State) → SoFar s0 V (ts ++ Word w ∷ []) u → (m : Meaning) → meaning w ≡ m → Reading s0 V (λ (e : faults.Fault). e.place) (Atom d) ts (text.variable m u)
+          a_number : Numbers s0 V ts
+          a_number = (0, inl (K (Number 0 ∷ []) (atom_ends d (Number 0 ∷ []) (term (0 % F.characteristic) origin) (grammar.number (omega arith), fine_constant L 0))))
+
+          a_word : Words s0 V ts
+          a_word = (name, inl (K (Word name ∷ []) (atom_ends d (Word name ∷ []) (term 1 (variable_exponents place)) (grammar.word named, fine_variable L place))))
+
+          known : (w : List ℕ) (u : State) → SoFar s0 V (ts ++ Word w ∷ []) u → (m : Meaning) → meaning w ≡ m → Reading s0 V fault_of (Atom d) ts (text.variable m u)
           known w u Hu (meanings.Variable i) e = read (Word w ∷ []) (grammar.word e, fine_variable L i) Hu
-          known w u Hu meanings.Unknown e = stuck (late s0 V Hu)
-          known w u Hu meanings.OtherKind e = stuck (late s0 V Hu)
+          known w u Hu meanings.Unknown e = stuck (late s0 V Hu (words_at s0 V Hu refl a_word))
+          known w u Hu meanings.OtherKind e = stuck (late s0 V Hu (words_at s0 V Hu refl a_word))
 
-          each : (tok : Token) (u : State) → SoFar s0 V (ts ++ tok ∷ []) u → Reading s0 V (λ (e : faults.Fault). e.place) (Atom d) ts (text.atom_of F meaning (text.parenthesised F meaning d) tok u)
-          each (Number n) u Hu = reading_if s0 V (λ (e : faults.Fault). e.place) (text.is_wide n) _ _ (λ _. stuck (late s0 V Hu)) (λ e. read (Number n ∷ []) (grammar.number (leb-false _ _ e), fine_constant L n) Hu)
+          each : (tok : Token) (u : State) → SoFar s0 V (ts ++ tok ∷ []) u → Reading s0 V fault_of (Atom d) ts (text.atom_of F meaning (text.parenthesised F meaning d) tok u)
+          each (Number n) u Hu = reading_if s0 V fault_of (text.is_wide n) _ _ (λ _. stuck (late s0 V Hu (numbers_at s0 V Hu refl a_number))) (λ e. read (Number n ∷ []) (grammar.number (leb-false _ _ e), fine_constant L n) Hu)
           each (Word w) u Hu = known w u Hu (meaning w) refl
-          each BadByte u Hu = stuck (late s0 V Hu)
+          each BadByte u Hu = stuck (late s0 V Hu tt)
           each (Sign s) u Hu =
-              reading_if s0 V (λ (e : faults.Fault). e.place) (eqb s opening) _ _
+              reading_if s0 V fault_of (eqb s opening) _ _
               (λ e. let Ho = subst (λ n. SoFar s0 V (ts ++ Sign n ∷ []) u) (eqb-true s opening e) Hu in
-              behind s0 V (λ (e : faults.Fault). e.place) ts (Sign opening ∷ []) _ (I (ts ++ Sign opening ∷ []) u Ho (λ us g. behind_one ts us (Sign opening) (K (Sign opening ∷ us) g))) (λ f us h. h))
-              (λ e. stuck (late s0 V Hu))
+              behind s0 V fault_of ts (Sign opening ∷ []) _ (I (ts ++ Sign opening ∷ []) u Ho (λ us g. behind_one ts us (Sign opening) (K (Sign opening ∷ us) g))) (λ f us h. h))
+              (λ e. stuck (late s0 V Hu tt))
 
-      factor_reading : (ts : List Token) (t : State) → SoFar s0 V ts t → ((us : List Token) → GoesOnFactor d us → V (ts ++ us))
-          → Reading s0 V (λ (e : faults.Fault). e.place) (Factor d) ts (text.factor F meaning (text.parenthesised F meaning d) t)
+      factor_reading : (ts : List Token) (t : State) → SoFar s0 V ts t → ((us : List Token) → GoesOnFactor d us → V.Goes (ts ++ us))
+          → Reading s0 V fault_of (Factor d) ts (text.factor F meaning (text.parenthesised F meaning d) t)
       unfolding text.factor text.exponent_of
       factor_reading ts t H K =
-          then_reading s0 V (λ (e : faults.Fault). e.place) _ (atom_reading ts t H K)
-          (λ f us u h Hu. reading_sign s0 V (λ (e : faults.Fault). e.place) caret _ _ Hu (K us (atom_ends d us f h)) (λ v Hv. raised f us h v (regrouped s0 V ts us (Sign caret ∷ []) Hv)) (read us (grammar.atom h.0, h.1) Hu))
+          then_reading s0 V fault_of _ (atom_reading ts t H K)
+          (λ f us u h Hu. reading_sign s0 V fault_of caret _ _ Hu (K us (atom_ends d us f h)) (λ v Hv. raised f us h v (regrouped s0 V ts us (Sign caret ∷ []) Hv)) (read us (grammar.atom h.0, h.1) Hu))
         where
           Exponent : List Token → ℕ → List Token → Type 0
           Exponent us k vs = (vs ≡ us ++ Sign caret ∷ Number k ∷ []) × (k ≤ 1000)
 
-          exponent : (f : Polynomial) (us : List Token) → Atom d f us → (tok : Token) (w : State) → SoFar s0 V ((ts ++ (us ++ Sign caret ∷ [])) ++ tok ∷ []) w → Reading s0 V (λ (e : faults.Fault). e.place) (Exponent us) ts (text.exponent_of tok w)
-          exponent f us h (Word x) w Hw = stuck (late s0 V Hw)
-          exponent f us h (Sign x) w Hw = stuck (late s0 V Hw)
-          exponent f us h BadByte w Hw = stuck (late s0 V Hw)
+          a_number : (f : Polynomial) (us : List Token) → Atom d f us → Numbers s0 V (ts ++ (us ++ Sign caret ∷ []))
+          a_number f us h =
+              let goes = K (us ++ Sign caret ∷ Number 0 ∷ []) ([], term 1 origin, subst (λ ws. IsFactor F meaning d ws (term 1 origin)) (sym (append-nil (us ++ Sign caret ∷ Number 0 ∷ []))) (power_goes d us f h), inr refl) in
+              (0, inl (subst V.Goes (ap (λ ws. ts ++ ws) (sym (append_assoc us (Sign caret ∷ []) (Number 0 ∷ []))) ∙ sym (append_assoc ts (us ++ Sign caret ∷ []) (Number 0 ∷ []))) goes))
+
+          exponent : (f : Polynomial) (us : List Token) → Atom d f us → (tok : Token) (w : State) → SoFar s0 V ((ts ++ (us ++ Sign caret ∷ [])) ++ tok ∷ []) w → Reading s0 V fault_of (Exponent us) ts (text.exponent_of tok w)
+          exponent f us h (Word x) w Hw = stuck (late s0 V Hw tt)
+          exponent f us h (Sign x) w Hw = stuck (late s0 V Hw tt)
+          exponent f us h BadByte w Hw = stuck (late s0 V Hw tt)
           exponent f us h (Number k) w Hw =
-              reading_if s0 V (λ (e : faults.Fault). e.place) (text.is_wide k) _ _ (λ _. stuck (late s0 V Hw))
-              (λ _. reading_if s0 V (λ (e : faults.Fault). e.place) (ltb 1000 k) _ _ (λ _. stuck (late s0 V Hw))
+              reading_if s0 V fault_of (text.is_wide k) _ _ (λ _. stuck (late s0 V Hw (numbers_at s0 V Hw refl (a_number f us h))))
+              (λ _. reading_if s0 V fault_of (ltb 1000 k) _ _ (λ _. stuck (late s0 V Hw tt))
               (λ e. read (us ++ Sign caret ∷ Number k ∷ []) (refl, ltb-false _ _ e)
               (subst (λ ws. SoFar s0 V ws w) (append_assoc ts (us ++ Sign caret ∷ []) (Number k ∷ []) ∙ ap (λ ws. ts ++ ws) (append_assoc us (Sign caret ∷ []) (Number k ∷ []))) Hw)))
 
           raised : (f : Polynomial) (us : List Token) → Atom d f us → (v : State) → SoFar s0 V (ts ++ (us ++ Sign caret ∷ [])) v
-              → Reading s0 V (λ (e : faults.Fault). e.place) (Factor d) ts (option_map_or (λ t. text.exponent_of t.0 t.1) (next v) (Err (unexpected v)) >>= λ k. text.formed (text.power_within F f k.0) k.1)
+              → Reading s0 V fault_of (Factor d) ts (option_map_or (λ t. text.exponent_of t.0 t.1) (next v) (Err (unexpected v)) >>= λ k. text.formed (text.power_within F f k.0) k.1)
           raised f us h v Hv =
-              then_reading s0 V (λ (e : faults.Fault). e.place) (λ k. text.formed (text.power_within F f k.0) k.1)
-              (reading_next s0 V (λ (e : faults.Fault). e.place) {Q = Exponent us} {ts = ts} (λ t. text.exponent_of t.0 t.1) (unexpected v) refl Hv (K (us ++ Sign caret ∷ []) (atom_raised d us f h)) (exponent f us h))
+              then_reading s0 V fault_of (λ k. text.formed (text.power_within F f k.0) k.1)
+              (reading_next s0 V fault_of {Q = Exponent us} {ts = ts} (λ t. text.exponent_of t.0 t.1) (unexpected v) refl Hv (K (us ++ Sign caret ∷ []) (atom_raised d us f h)) (exponent f us h))
               (λ k vs w q Hw. formed_reading s0 V ts vs (text.power_within F f k) w Hw
               (λ g e. let p = power-small L h.1.polynomial k g e in
               subst (λ ws. Factor d g ws) (sym q.0) (subst (λ y. Factor d y (us ++ Sign caret ∷ Number k ∷ [])) (sym p.0) (grammar.raised h.0 q.1 p.1, fine_power f h.1 k p.1))))
 
-      times_reading : (ts : List Token) → ((us : List Token) → GoesOnTerm d us → V (ts ++ us)) → (x : Polynomial) (us : List Token) (t : State) (r : text.Answer Polynomial) → Term d x us → SoFar s0 V (ts ++ us) t
-          → text.times_factor F meaning (text.parenthesised F meaning d) x t ≡ Some r → Reading s0 V (λ (e : faults.Fault). e.place) (Term d) ts r
+      times_reading : (ts : List Token) → ((us : List Token) → GoesOnTerm d us → V.Goes (ts ++ us)) → (x : Polynomial) (us : List Token) (t : State) (r : text.Answer Polynomial) → Term d x us → SoFar s0 V (ts ++ us) t
+          → text.times_factor F meaning (text.parenthesised F meaning d) x t ≡ Some r → Reading s0 V fault_of (Term d) ts r
       unfolding text.times_factor
       times_reading ts K x us t r w H e = by (after_sign star t) refl e
         where
@@ -339,44 +417,44 @@ module _ {F : Field} (L : IsField F) (meaning : List ℕ → Meaning) where
           Behind : Polynomial → List Token → Type 0
           Behind g ws = (vs : List Token) × (ws ≡ us ++ Sign star ∷ vs) × Factor d g vs
 
-          by : (o : Option State) → after_sign star t ≡ o → option_map turn o ≡ Some r → Reading s0 V (λ (e : faults.Fault). e.place) (Term d) ts r
+          by : (o : Option State) → after_sign star t ≡ o → option_map turn o ≡ Some r → Reading s0 V fault_of (Term d) ts r
           by None is h = absurd cc
           by (Some v) is h =
               let Hv = regrouped s0 V ts us (Sign star ∷ []) (sign_taken s0 V star t v H (K us (term_ends d us x w)) is) in
               let factor = factor_reading (ts ++ (us ++ Sign star ∷ [])) v Hv (λ vs g. behind_more ts us vs (Sign star) (K (us ++ Sign star ∷ vs) (term_goes d us vs x w g))) in
-              let whole = behind s0 V (λ (e : faults.Fault). e.place) {Q = Factor d} {R = Behind} ts (us ++ Sign star ∷ []) _ factor (λ g vs k. (vs, append_assoc us (Sign star ∷ []) vs, k)) in
-              subst (Reading s0 V (λ (e : faults.Fault). e.place) (Term d) ts) (same_Some _ _ h)
-              (then_reading s0 V (λ (e : faults.Fault). e.place) (λ g. text.formed (text.within (product F x g.0)) g.1) whole
+              let whole = behind s0 V fault_of {Q = Factor d} {R = Behind} ts (us ++ Sign star ∷ []) _ factor (λ g vs k. (vs, append_assoc us (Sign star ∷ []) vs, k)) in
+              subst (Reading s0 V fault_of (Term d) ts) (same_Some _ _ h)
+              (then_reading s0 V fault_of (λ g. text.formed (text.within (product F x g.0)) g.1) whole
               (λ g ws z k Hz. formed_reading s0 V ts ws (text.within (product F x g)) z Hz
               (λ y ok. let p = within-small (product F x g) y ok in
               subst (Term d y) (sym k.1) (subst (λ a. Term d a (us ++ Sign star ∷ k.0)) p.0 (grammar.times w.0 k.2.0 p.1, record { polynomial = IsPolynomial-product L w.1.polynomial k.2.1.polynomial; within = p.1 })))))
 
-      term_reading : (ts : List Token) (t : State) → SoFar s0 V ts t → ((us : List Token) → GoesOnTerm d us → V (ts ++ us))
-          → Reading s0 V (λ (e : faults.Fault). e.place) (Term d) ts (text.term_at F meaning (text.parenthesised F meaning d) t)
+      term_reading : (ts : List Token) (t : State) → SoFar s0 V ts t → ((us : List Token) → GoesOnTerm d us → V.Goes (ts ++ us))
+          → Reading s0 V fault_of (Term d) ts (text.term_at F meaning (text.parenthesised F meaning d) t)
       unfolding text.term_at
       term_reading ts t H K =
-          then_reading s0 V (λ (e : faults.Fault). e.place) _ (factor_reading ts t H (λ us g. K us (term_of_factor d us g)))
+          then_reading s0 V fault_of _ (factor_reading ts t H (λ us g. K us (term_of_factor d us g)))
           (λ f us u h Hu. repeat_reading s0 V (text.times_factor F meaning (text.parenthesised F meaning d)) (Term d) ts (times_reading ts K) (length u.left) f us u (grammar.factor h.0, h.1) Hu)
 
-      first_reading : (ts : List Token) (t : State) → SoFar s0 V ts t → ((us : List Token) → GoesOn d us → V (ts ++ us))
-          → Reading s0 V (λ (e : faults.Fault). e.place) (Whole d) ts (text.first_term F meaning (text.parenthesised F meaning d) t)
+      first_reading : (ts : List Token) (t : State) → SoFar s0 V ts t → ((us : List Token) → GoesOn d us → V.Goes (ts ++ us))
+          → Reading s0 V fault_of (Whole d) ts (text.first_term F meaning (text.parenthesised F meaning d) t)
       unfolding text.first_term
       first_reading ts t H K =
-          reading_sign s0 V (λ (e : faults.Fault). e.place) minus _ _ H (at_once ts (K [] (expression_of_term d [] (term_of_factor d [] (factor_default d)))))
-          (λ u Hu. then_reading s0 V (λ (e : faults.Fault). e.place) (λ f. Ok (negation F f.0, f.1))
-          (behind s0 V (λ (e : faults.Fault). e.place) {Q = Term d} {R = Negative} ts (Sign minus ∷ []) _ (term_reading (ts ++ Sign minus ∷ []) u Hu (λ us g. behind_one ts us (Sign minus) (K (Sign minus ∷ us) (expression_of_minus d us g)))) (λ f vs h. (vs, refl, h)))
+          reading_sign s0 V fault_of minus _ _ H (at_once ts (K [] (expression_of_term d [] (term_of_factor d [] (factor_default d)))))
+          (λ u Hu. then_reading s0 V fault_of (λ f. Ok (negation F f.0, f.1))
+          (behind s0 V fault_of {Q = Term d} {R = Negative} ts (Sign minus ∷ []) _ (term_reading (ts ++ Sign minus ∷ []) u Hu (λ us g. behind_one ts us (Sign minus) (K (Sign minus ∷ us) (expression_of_minus d us g)))) (λ f vs h. (vs, refl, h)))
           (λ f ws v k Hv. read ws (subst (Whole d (negation F f)) (sym k.1) (grammar.negative k.2.0, fine_negation L k.2.1)) Hv))
           (plain (text.term_at F meaning (text.parenthesised F meaning d) t) (term_reading ts t H (λ us g. K us (expression_of_term d us g))))
         where
           Negative : Polynomial → List Token → Type 0
           Negative f ws = (vs : List Token) × (ws ≡ Sign minus ∷ vs) × Term d f vs
 
-          plain : (r : text.Answer Polynomial) → Reading s0 V (λ (e : faults.Fault). e.place) (Term d) ts r → Reading s0 V (λ (e : faults.Fault). e.place) (Whole d) ts r
+          plain : (r : text.Answer Polynomial) → Reading s0 V fault_of (Term d) ts r → Reading s0 V fault_of (Whole d) ts r
           plain r (read us h Hu) = read us (grammar.first h.0, h.1) Hu
           plain r (stuck Hu) = stuck Hu
 
-      plus_reading : (ts : List Token) → ((us : List Token) → GoesOn d us → V (ts ++ us)) → (x : Polynomial) (us : List Token) (t : State) (r : text.Answer Polynomial) → Whole d x us → SoFar s0 V (ts ++ us) t
-          → text.plus_term F meaning (text.parenthesised F meaning d) x t ≡ Some r → Reading s0 V (λ (e : faults.Fault). e.place) (Whole d) ts r
+      plus_reading : (ts : List Token) → ((us : List Token) → GoesOn d us → V.Goes (ts ++ us)) → (x : Polynomial) (us : List Token) (t : State) (r : text.Answer Polynomial) → Whole d x us → SoFar s0 V (ts ++ us) t
+          → text.plus_term F meaning (text.parenthesised F meaning d) x t ≡ Some r → Reading s0 V fault_of (Whole d) ts r
       unfolding text.plus_term
       plus_reading ts K x us t r w H e = by (after_sign plus t) (after_sign minus t) refl refl e
         where
@@ -390,44 +468,44 @@ module _ {F : Field} (L : IsField F) (meaning : List ℕ → Meaning) where
           Behind sgn g ws = (vs : List Token) × (ws ≡ us ++ Sign sgn ∷ vs) × Term d g vs
 
           -- the term behind a sign
-          behind_sign : (sgn : ℕ) (v : State) → after_sign sgn t ≡ Some v → ((vs : List Token) → GoesOnTerm d vs → V (ts ++ (us ++ Sign sgn ∷ vs)))
-              → Reading s0 V (λ (e : faults.Fault). e.place) (Behind sgn) ts (text.term_at F meaning (text.parenthesised F meaning d) v)
+          behind_sign : (sgn : ℕ) (v : State) → after_sign sgn t ≡ Some v → ((vs : List Token) → GoesOnTerm d vs → V.Goes (ts ++ (us ++ Sign sgn ∷ vs)))
+              → Reading s0 V fault_of (Behind sgn) ts (text.term_at F meaning (text.parenthesised F meaning d) v)
           behind_sign sgn v is goes =
               let Hv = regrouped s0 V ts us (Sign sgn ∷ []) (sign_taken s0 V sgn t v H (K us (expression_ends d us x w)) is) in
-              behind s0 V (λ (e : faults.Fault). e.place) {Q = Term d} {R = Behind sgn} ts (us ++ Sign sgn ∷ []) _ (term_reading (ts ++ (us ++ Sign sgn ∷ [])) v Hv (λ vs g. behind_more ts us vs (Sign sgn) (goes vs g)))
+              behind s0 V fault_of {Q = Term d} {R = Behind sgn} ts (us ++ Sign sgn ∷ []) _ (term_reading (ts ++ (us ++ Sign sgn ∷ [])) v Hv (λ vs g. behind_more ts us vs (Sign sgn) (goes vs g)))
               (λ g vs k. (vs, append_assoc us (Sign sgn ∷ []) vs, k))
 
-          by : (o q : Option State) → after_sign plus t ≡ o → after_sign minus t ≡ q → option_map_or (λ v. Some (added v)) o (option_map less q) ≡ Some r → Reading s0 V (λ (e : faults.Fault). e.place) (Whole d) ts r
+          by : (o q : Option State) → after_sign plus t ≡ o → after_sign minus t ≡ q → option_map_or (λ v. Some (added v)) o (option_map less q) ≡ Some r → Reading s0 V fault_of (Whole d) ts r
           by None None is not h = absurd cc
           by (Some v) q is not h =
-              subst (Reading s0 V (λ (e : faults.Fault). e.place) (Whole d) ts) (same_Some _ _ h)
-              (then_reading s0 V (λ (e : faults.Fault). e.place) (λ g. text.formed (text.within (sum F x g.0)) g.1) (behind_sign plus v is (λ vs g. K (us ++ Sign plus ∷ vs) (expression_plus d us vs x w g)))
+              subst (Reading s0 V fault_of (Whole d) ts) (same_Some _ _ h)
+              (then_reading s0 V fault_of (λ g. text.formed (text.within (sum F x g.0)) g.1) (behind_sign plus v is (λ vs g. K (us ++ Sign plus ∷ vs) (expression_plus d us vs x w g)))
               (λ g ws z k Hz. formed_reading s0 V ts ws (text.within (sum F x g)) z Hz
               (λ y ok. let p = within-small (sum F x g) y ok in
               subst (Whole d y) (sym k.1) (subst (λ a. Whole d a (us ++ Sign plus ∷ k.0)) p.0 (grammar.add w.0 k.2.0 p.1, record { polynomial = IsPolynomial-sum L w.1.polynomial k.2.1.polynomial; within = p.1 })))))
           by None (Some v) not is h =
-              subst (Reading s0 V (λ (e : faults.Fault). e.place) (Whole d) ts) (same_Some _ _ h)
-              (then_reading s0 V (λ (e : faults.Fault). e.place) (λ g. text.formed (text.within (sum F x (negation F g.0))) g.1) (behind_sign minus v is (λ vs g. K (us ++ Sign minus ∷ vs) (expression_minus d us vs x w g)))
+              subst (Reading s0 V fault_of (Whole d) ts) (same_Some _ _ h)
+              (then_reading s0 V fault_of (λ g. text.formed (text.within (sum F x (negation F g.0))) g.1) (behind_sign minus v is (λ vs g. K (us ++ Sign minus ∷ vs) (expression_minus d us vs x w g)))
               (λ g ws z k Hz. formed_reading s0 V ts ws (text.within (sum F x (negation F g))) z Hz
               (λ y ok. let p = within-small (sum F x (negation F g)) y ok in
               subst (Whole d y) (sym k.1) (subst (λ a. Whole d a (us ++ Sign minus ∷ k.0)) p.0 (grammar.less w.0 k.2.0 p.1, record { polynomial = IsPolynomial-sum L w.1.polynomial (IsPolynomial-negation L k.2.1.polynomial); within = p.1 })))))
 
-      sum_reading : (ts : List Token) (t : State) → SoFar s0 V ts t → ((us : List Token) → GoesOn d us → V (ts ++ us))
-          → Reading s0 V (λ (e : faults.Fault). e.place) (Whole d) ts (text.sum_at F meaning (text.parenthesised F meaning d) t)
+      sum_reading : (ts : List Token) (t : State) → SoFar s0 V ts t → ((us : List Token) → GoesOn d us → V.Goes (ts ++ us))
+          → Reading s0 V fault_of (Whole d) ts (text.sum_at F meaning (text.parenthesised F meaning d) t)
       unfolding text.sum_at
       sum_reading ts t H K =
-          then_reading s0 V (λ (e : faults.Fault). e.place) _ (first_reading ts t H K)
+          then_reading s0 V fault_of _ (first_reading ts t H K)
           (λ f us u h Hu. repeat_reading s0 V (text.plus_term F meaning (text.parenthesised F meaning d)) (Whole d) ts (plus_reading ts K) (length u.left) f us u h Hu)
 
     inside_reading : (d : ℕ) → Inside d
     unfolding text.parenthesised
-    inside_reading zero ts u H K = stuck (late s0 V H)
+    inside_reading zero ts u H K = stuck (late s0 V H tt)
     inside_reading (suc d) ts u H K =
-        then_reading s0 V (λ (e : faults.Fault). e.place) _ (sum_reading d (inside_reading d) ts u H (λ us g. K us (inside_goes d us g)))
+        then_reading s0 V fault_of _ (sum_reading d (inside_reading d) ts u H (λ us g. K us (inside_goes d us g)))
         (λ f us v h Hv. let here = K us (inside_goes d us (expression_ends d us f h)) in
-        reading_sign s0 V (λ (e : faults.Fault). e.place) closing _ _ Hv here
+        reading_sign s0 V fault_of closing _ _ Hv here
         (λ x Hx. read (us ++ Sign closing ∷ []) (grammar.parentheses h.0, h.1) (regrouped s0 V ts us (Sign closing ∷ []) Hx)) (stuck (wrong_next s0 V Hv here)))
 
-    pub expression_reading : (ts : List Token) (t : State) → SoFar s0 V ts t → ((us : List Token) → GoesOn 64 us → V (ts ++ us)) → Reading s0 V (λ (e : faults.Fault). e.place) (Whole 64) ts (text.expression F meaning t)
+    pub expression_reading : (ts : List Token) (t : State) → SoFar s0 V ts t → ((us : List Token) → GoesOn 64 us → V.Goes (ts ++ us)) → Reading s0 V fault_of (Whole 64) ts (text.expression F meaning t)
     unfolding text.expression
     expression_reading ts t H K = sum_reading 64 (inside_reading 64) ts t H K

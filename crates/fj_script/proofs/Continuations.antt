@@ -161,9 +161,9 @@ names_short (v ∷ vs) zero d inside = omega arith
 names_short (v ∷ vs) (suc i) d inside = let rest = names_short vs i d (omega arith) in omega (arith, rest)
 
 -- a word that is none of these
-pub new_word : List (List ℕ) → List ℕ
-new_word vs = fresh (suc (names_length vs))
+pub other_word : List (List ℕ) → List ℕ
+other_word vs = fresh (suc (names_length vs))
 
-pub new_word-is : (vs : List (List ℕ)) → All (λ v. v ≢ new_word vs) vs
-unfolding new_word
-new_word-is vs i d inside same = let short = names_short vs i d inside in let long = ap length same in absurd (omega (arith, short, long, fresh-length (suc (names_length vs))))
+pub other_word-is : (vs : List (List ℕ)) → All (λ v. v ≢ other_word vs) vs
+unfolding other_word
+other_word-is vs i d inside same = let short = names_short vs i d inside in let long = ap length same in absurd (omega (arith, short, long, fresh-length (suc (names_length vs))))

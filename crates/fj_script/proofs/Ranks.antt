@@ -99,14 +99,14 @@ the_sign sgn (Number n) e = absurd cc
 the_sign sgn (Sign b) e = ap Sign (eqb-true b sgn e)
 the_sign sgn BadByte e = absurd cc
 
--- The tokens of a line; whether it is the ring's; whether it declares a name; and the words that may be declared.
-module _ (all : List Placed) (InRing Declares : Type 0) (New : List ℕ → Type 0) where
-  -- The second token of a declaration is a new name.
+-- The tokens of a line, and whether it is the ring's.
+module _ (all : List Placed) (InRing : Type 0) where
+  -- no wide number
   abbrev pub Low : Saying
-  Low us t = IsNarrow t × (Declares → (1 ≤ length us) × (length us ≡ 1 → (w : List ℕ) → t ≡ Word w → New w))
+  Low us t = IsNarrow t
 
   abbrev Numeric : Saying
-  Numeric us t = Low us t × (n : ℕ) × (t ≡ Number n)
+  Numeric us t = IsNarrow t × (n : ℕ) × (t ≡ Number n)
 
   -- the first token, a word
   abbrev pub Start : Saying
@@ -190,14 +190,8 @@ module _ (all : List Placed) (InRing Declares : Type 0) (New : List ℕ → Type
       by [] e = none
       by (t ∷ ts) e = test t ts e (is_the_sign sgn t.token) refl
 
-  low_then : (t u : Token) (us : List Placed) → IsNarrow u → Then Low t us u → Low us u
-  low_then t u us n k = (n, λ d. let long : 2 ≤ length us = more_tokens us k.1 k.2 k.3 (k.4.1 d).0 in (omega (arith, long), λ one. absurd (omega (arith, long, one))))
-    where
-      more_tokens : (us vs : List Placed) (v : Placed) → us ≡ vs ++ v ∷ [] → 1 ≤ length vs → 2 ≤ length us
-      more_tokens us vs v e m = let long = ap length e ∙ length-append vs (v ∷ []) in omega (arith, long, m)
-
   safe_as : (t : Token) (s : State) → IsNarrow t → IsTaken (Then Low t) s → Safe s
-  safe_as t s n h = taken_on (Then Low t) Low s h (λ us u k. low_then t u us (subst IsNarrow (sym k.0) n) k)
+  safe_as t s n h = taken_on (Then Low t) Low s h (λ us u k. subst IsNarrow (sym k.0) n)
 
   unexpected_fits : (s : State) → TextFits (unexpected s)
   unfolding unexpected
@@ -316,7 +310,7 @@ module _ (all : List Placed) (InRing Declares : Type 0) (New : List ℕ → Type
     narrow_number s h =
         holds_then LineFits (λ (x : ℕ × State). IsTaken (Then Low (Number x.0)) x.1) (λ (x : ℕ × State). IsTaken Numeric x.1) (number s) _
         (number_fits Low s h)
-        (λ x k. holds_if LineFits (λ (y : ℕ × State). IsTaken Numeric y.1) (text.is_wide x.0) _ _ (λ e. N) (λ e. taken_on (Then Low (Number x.0)) Numeric x.1 k (λ us u g. (low_then (Number x.0) u us (subst IsNarrow (sym g.0) (narrow_if x.0 e)) g, x.0, g.0))))
+        (λ x k. holds_if LineFits (λ (y : ℕ × State). IsTaken Numeric y.1) (text.is_wide x.0) _ _ (λ e. N) (λ e. taken_on (Then Low (Number x.0)) Numeric x.1 k (λ us u g. (subst IsNarrow (sym g.0) (narrow_if x.0 e), x.0, g.0))))
 
     safe_number : (s : State) → IsTaken Numeric s → Safe s
     safe_number s h = taken_on Numeric Low s h (λ us u k. k.0)
@@ -568,7 +562,7 @@ module _ (all : List Placed) (InRing Declares : Type 0) (New : List ℕ → Type
     generator_fits S fs = either (leb 64 (length fs)) _ _ (λ s h. here Low s h) (counted_fits S (S.terms + terms_in fs))
 
     low_sign : (b : ℕ) (us : List Placed) (t : Token) → Then Low (Sign b) us t → Low us t
-    low_sign b us t k = low_then (Sign b) t us (subst IsNarrow (sym k.0) tt) k
+    low_sign b us t k = subst IsNarrow (sym k.0) tt
 
     -- a sign that isn't the closing parenthesis
     not_closing : (b : ℕ) → (b ≡ closing → ⊥) → (us : List Placed) (t : Token) → Then Low (Sign b) us t → Open us t
@@ -588,36 +582,29 @@ module _ (all : List Placed) (InRing Declares : Type 0) (New : List ℕ → Type
 
     -- ---- statements, from their first word on
 
-    module _ (S : Session) (free : (w : List ℕ) → (names.is_variable S w || is_some (place_of (names.declared_names S.values) w)) ≡ false → New w) where
-      new_name_fits : (s : State) → IsTaken Start s → Holds LineFits (λ (x : List ℕ × State). Safe x.1) (names.new_name S s)
+    pub begins : (s : State) → IsTaken Start s → Safe s
+    begins s h = taken_on Start Low s h (λ us t k. subst IsNarrow (sym k.2) tt)
+
+    module _ (S : Session) where
+      new_name_fits : Rule (names.new_name S)
       unfolding names.new_name
-      new_name_fits s h =
-          let Z : List ℕ × State → Type 0 = λ x. Safe x.1 in
-          holds_then LineFits (λ (x : List ℕ × State). IsTaken (Then Start (Word x.0)) x.1) Z (word s) _ (word_from Start s h)
-          (λ w k. holds_if LineFits Z (names.is_variable S w.0 || is_some (place_of (names.declared_names S.values) w.0)) _ _ (λ e r. absurd (N r))
-          (λ e. let safe = taken_on (Then Start (Word w.0)) Low w.1 k (λ us t g. new_low w.0 (free w.0 e) us t g) in holds_if LineFits Z (leb 4096 (length S.values)) _ _ (λ m. here Low w.1 safe) (λ m. safe)))
-        where
-          word_same : (w v : List ℕ) → Word w ≡ Word v → w ≡ v
-          word_same w v e = cc
+      new_name_fits =
+          then word _ word_fits
+          (λ w. either (names.is_variable S w || is_some (place_of (names.declared_names S.values) w)) _ _ (λ s h r. absurd (N r)) (either (leb 4096 (length S.values)) _ (λ s. Ok (w, s)) (λ s h. here Low s h) (λ s h. h)))
 
-          new_low : (w : List ℕ) → New w → (us : List Placed) (t : Token) → Then Start (Word w) us t → Low us t
-          new_low w new us t g =
-              let one : length us ≡ 1 = ap length g.3 ∙ ap (λ vs. length (vs ++ g.2 ∷ [])) g.4.0 in
-              (subst IsNarrow (sym g.0) tt, λ d. (omega (arith, one), λ is v same. let words : w ≡ v = word_same w v (sym g.0 ∙ same) in subst New words new))
-
-      name_equals_fits : (s : State) → IsTaken Start s → Holds LineFits (λ (x : List ℕ × State). Safe x.1) (declaration.name_equals S s)
+      name_equals_fits : Rule (declaration.name_equals S)
       unfolding declaration.name_equals
       name_equals_fits s h =
           let Z : List ℕ × State → Type 0 = λ x. Safe x.1 in
           holds_then LineFits Z Z (names.new_name S s) _ (new_name_fits s h) (λ w k. holds_then LineFits (IsTaken (Then Low (Sign equals))) Z (sign equals w.1) _ (sign_fits Low equals w.1 k) (λ t g. safe_as (Sign equals) t tt g))
 
-      pub poly_fits : (s : State) → IsTaken Start s → Holds LineFits (λ (x : Session). Unit {0}) (declaration.poly S s)
+      pub poly_fits : Stop (declaration.poly S)
       unfolding declaration.poly
       poly_fits s h =
           holds_then LineFits (λ (x : List ℕ × State). Safe x.1) (λ (x : Session). Unit {0}) (declaration.name_equals S s) _ (name_equals_fits s h)
           (λ name k. last_then (declaration.counted S S.terms) _ (counted_fits S S.terms) (λ f. ends Low (declare S name.0 (Poly f) (length f))) name.1 k)
 
-      pub ideal_line_fits : (s : State) → IsTaken Start s → Holds LineFits (λ (x : Session). Unit {0}) (declaration.ideal S s)
+      pub ideal_line_fits : Stop (declaration.ideal S)
       unfolding declaration.ideal
       ideal_line_fits s h =
           holds_then LineFits (λ (x : List ℕ × State). Safe x.1) (λ (x : Session). Unit {0}) (declaration.name_equals S s) _ (name_equals_fits s h)
@@ -625,7 +612,7 @@ module _ (all : List Placed) (InRing Declares : Type 0) (New : List ℕ → Type
           (enclosed_fits Low Low (listed (declaration.generator S)) (listed_fits (λ xs. Low) (λ xs. Low) (declaration.generator S) (generator_fits S) (λ xs. low_sign comma)) (low_sign opening) name.1 k)
           (λ fs g. ends (Then Low (Sign closing)) (declare S name.0 (Ideal fs.0) (terms_in fs.0)) fs.1 g))
 
-      pub point_fits : (s : State) → IsTaken Start s → Holds LineFits (λ (x : Session). Unit {0}) (declaration.point S s)
+      pub point_fits : Stop (declaration.point S)
       unfolding declaration.point
       point_fits s h =
           holds_then LineFits (λ (x : List ℕ × State). Safe x.1) (λ (x : Session). Unit {0}) (declaration.name_equals S s) _ (name_equals_fits s h)
@@ -635,21 +622,17 @@ module _ (all : List Placed) (InRing Declares : Type 0) (New : List ℕ → Type
           (λ cs g. holds_if LineFits (λ (x : Session). Unit {0}) (ltb (length cs.0) (length S.variables)) _ _ (λ e. here Closes cs.1 (taken_on (Then Numeric (Sign closing)) Closes cs.1 g (λ us t m c. (m.1, m.2, m.3, (m.4.1, m.4.2)))))
           (λ e. ends (Then Numeric (Sign closing)) (declare S name.0 (Point cs.0) 0) cs.1 g)))
 
-    module _ (D : Declares → ⊥) where
-      pub begins : (s : State) → IsTaken Start s → Safe s
-      begins s h = taken_on Start Low s h (λ us t k. (subst IsNarrow (sym k.2) tt, λ d. absurd (D d)))
+    pub order_fits : (S : Session) → Stop (statements.order S)
+    unfolding statements.order
+    order_fits S = last_then word _ word_fits (λ w s h. holds_option LineFits (λ (x : Session). Unit {0}) (statements.order_of w) (λ name. at_end (record S { order = name }, s)) _ (λ name. ends Low (record S { order = name }) s h) tt)
 
-      pub order_fits : (S : Session) → Stop (statements.order S)
-      unfolding statements.order
-      order_fits S = last_then word _ word_fits (λ w s h. holds_option LineFits (λ (x : Session). Unit {0}) (statements.order_of w) (λ name. at_end (record S { order = name }, s)) _ (λ name. ends Low (record S { order = name }) s h) tt)
+    pub budget_fits : (S : Session) → Stop (statements.budget S)
+    unfolding statements.budget
+    budget_fits S = last_then (numbers.within 1 10000000) _ (within_fits 1 10000000) (λ n. ends Low (record S { budget = n }))
 
-      pub budget_fits : (S : Session) → Stop (statements.budget S)
-      unfolding statements.budget
-      budget_fits S = last_then (numbers.within 1 10000000) _ (within_fits 1 10000000) (λ n. ends Low (record S { budget = n }))
-
-      pub asking_fits : (S : Session) → Stop (statements.asking S)
-      unfolding statements.asking
-      asking_fits S s h = holds_if LineFits (λ (x : Session). Unit {0}) (leb 4096 (length S.asked)) _ _ (λ e. here Low s h) (λ e. last_then (question.question_at S) _ (question_fits S) (λ q. ends Low (ask S q)) s h)
+    pub asking_fits : (S : Session) → Stop (statements.asking S)
+    unfolding statements.asking
+    asking_fits S s h = holds_if LineFits (λ (x : Session). Unit {0}) (leb 4096 (length S.asked)) _ _ (λ e. here Low s h) (λ e. last_then (question.question_at S) _ (question_fits S) (λ q. ends Low (ask S q)) s h)
 
   -- ---- the ring's line
 
@@ -694,13 +677,13 @@ module _ (all : List Placed) (InRing Declares : Type 0) (New : List ℕ → Type
     tokens_are : (us vs : List Placed) (t : Placed) → all ≡ us ++ t ∷ vs → t.start ≡ n → Tokens ≡ us
     tokens_are us vs t whole start = ap (λ k. filter (starts_before (k + 1)) all) (sym start) ∙ ap (filter (starts_before (t.start + 1))) whole ∙ before_place 0 us vs t (subst (AreRising 0) whole rises)
 
-    token_is : (us vs : List Placed) (t : Placed) → all ≡ us ++ t ∷ vs → t.start ≡ n → (at : Placed) → Contains all at → at.start ≡ n → at.token ≡ t.token
+    pub token_is : (us vs : List Placed) (t : Placed) → all ≡ us ++ t ∷ vs → t.start ≡ n → (at : Placed) → Contains all at → at.start ≡ n → at.token ≡ t.token
     token_is us vs t whole start at (k, inside, is) e =
         let each : All (λ u. u.start ≡ t.start → u.token ≡ t.token) all = subst (All (λ (u : Placed). u.start ≡ t.start → u.token ≡ t.token)) (sym whole) (one_there 0 us vs t (subst (AreRising 0) whole rises)) in
         subst (λ (u : Placed). u.start ≡ t.start → u.token ≡ t.token) is (each k at inside) (e ∙ sym start)
 
     pub narrow_there : AtPlace Low n → (at : Placed) → Contains all at → at.start ≡ n → (m : ℕ) → at.token ≡ Number m → m < 2 ^ 32
-    narrow_there (us, t, vs, whole, start, low) at inside e m is = subst IsNarrow (sym (token_is us vs t whole start at inside e) ∙ is) low.0
+    narrow_there (us, t, vs, whole, start, low) at inside e m is = subst IsNarrow (sym (token_is us vs t whole start at inside e) ∙ is) low
 
     pub number_before : AtPlace Closes n → (at : Placed) → Contains all at → at.start ≡ n → at.token ≡ Sign closing → (vs : List Placed) × (v : Placed) × (Tokens ≡ vs ++ v ∷ []) × IsNumber v.token
     number_before (us, t, vs, whole, start, closes) at inside e is =
@@ -709,6 +692,3 @@ module _ (all : List Placed) (InRing Declares : Type 0) (New : List ℕ → Type
 
     pub early : AtPlace Early n → length Tokens ≤ 14
     early (us, t, vs, whole, start, few) = let same = ap length (tokens_are us vs t whole start) in omega (arith, few, same)
-
-    pub new_there : AtPlace Low n → Declares → length Tokens ≡ 1 → (at : Placed) → Contains all at → at.start ≡ n → (w : List ℕ) → at.token ≡ Word w → New w
-    new_there (us, t, vs, whole, start, low) declares one at inside e w is = (low.1 declares).1 (ap length (sym (tokens_are us vs t whole start)) ∙ one) w (sym (token_is us vs t whole start at inside e) ∙ is)

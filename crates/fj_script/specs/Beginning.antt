@@ -20,6 +20,11 @@ abbrev pub CanGoOn : Option Session → List Token → Type 0
 CanGoOn None ts = (more : List Token) × (T : Session) × IsRing (ts ++ more) T
 CanGoOn (Some S) ts = (other : Session) × IsAlikeFor (drop 1 ts) S other × (more : List Token) × (T : Session) × IsStatement other (ts ++ more) T
 
+-- The same, and the next token is this one. The words behind it mean what they mean in the other session.
+abbrev pub CanGoOnWith : Option Session → List Token → Token → Type 0
+CanGoOnWith None ts t = (more : List Token) × (T : Session) × IsRing (ts ++ t ∷ more) T
+CanGoOnWith (Some S) ts t = (other : Session) × IsAlikeFor (drop 1 ts) S other × (more : List Token) × (T : Session) × IsStatement other (ts ++ t ∷ more) T
+
 -- Tokens that can't go on, though none of them is wrong: a comma behind seven variables, and a fraction with numerator 0
 -- where t has to be above 0.
 pub data IsDoomed : List Token → Type 0 where
