@@ -9,7 +9,6 @@ use Rattle.fj_text.specs.Token.{Token, Word, Number, Sign, BadByte, Placed}
 use Rattle.fj_script.specs.Beginning.{CanGoOn, CanGoOnWith, IsDoomed}
 use Rattle.fj_script.specs.declared.fault.FaultKind.{FaultKind}
 use Rattle.fj_script.specs.declared.fault.FaultKind.TheVariants as kinds
-use Rattle.fj_script.specs.declared.fault.LineFault.{LineFault}
 use Rattle.fj_script.specs.declared.question.Question.{Question}
 use Rattle.fj_script.specs.declared.value.Kind.{Kind}
 use Rattle.fj_script.specs.declared.value.Kind.TheVariants as values
@@ -23,7 +22,7 @@ use Rattle.fj_script.specs.Question as question
 use Rattle.fj_script.specs.Question.{Target}
 use Rattle.fj_script.specs.Rank.{AreTooMany}
 use Rattle.fj_script.specs.Session.{Session, Value, ask, kind}
-use Rattle.fj_script.proofs.Beginnings.{Fits, Numbers, Reading, Sayings, SoFar, StandsAt, Stuck, Words, all_left, behind, end_last, late, numbers_at, read, reading_if, reading_next, stuck, then_reading, tokens_all, toks, unexpected_fits, words_at}
+use Rattle.fj_script.proofs.Beginnings.{Fits, Numbers, Reading, Sayings, SoFar, StandsAt, Stuck, Took, Words, all_left, behind, end_last, late, numbers_at, read, reading_if, reading_next, sound, stuck, then_reading, tokens_all, toks, unexpected_blames, unexpected_fits, words_at, wrong_token}
 use Rattle.fj_script.proofs.Continuations.{fresh, longest, some_ideal, some_level, some_nonconstant, some_polynomial, wide, wide_alike, wide_ideal, wide_nonconstant, wide_point, wide_polynomial}
 use Rattle.fj_script.proofs.GrammarPieces.{Declares, as_ideal, as_nonconstant, as_point, as_polynomial, declared_at, neither, not_zero}
 
@@ -50,23 +49,23 @@ module _ (s0 : State) (V : Sayings) where
   abbrev pub IsReaderOf : (List Token → Type 0) → {A : Type 0} → (A → List Token → Type 0) → (State → Answer A) → Type 0
   IsReaderOf Next Q R = (ws : List Token) (t : State) → SoFar s0 V ws t → V.Goes ws → Next ws → Reading s0 V (λ e. e) Q ws (R t)
 
-  pub number_of_reading : (ws : List Token) (tok : Token) (u : State) → SoFar s0 V (ws ++ tok ∷ []) u → Reading s0 V (λ e. e) (λ n us. us ≡ Number n ∷ []) ws (number_of tok u)
+  pub number_of_reading : (ws : List Token) (tok : Token) (u : State) → Took s0 V (ws ++ tok ∷ []) u → Reading s0 V (λ e. e) (λ n us. us ≡ Number n ∷ []) ws (number_of tok u)
   unfolding number_of
-  number_of_reading ws (Number n) u H = read (Number n ∷ []) refl H
-  number_of_reading ws (Word w) u H = stuck (late s0 V H tt)
-  number_of_reading ws (Sign b) u H = stuck (late s0 V H tt)
-  number_of_reading ws BadByte u H = stuck (late s0 V H tt)
+  number_of_reading ws (Number n) u H = read (Number n ∷ []) refl (sound s0 V ws (Number n) tt H)
+  number_of_reading ws (Word w) u H = stuck (wrong_token s0 V ws (Word w) H)
+  number_of_reading ws (Sign b) u H = stuck (wrong_token s0 V ws (Sign b) H)
+  number_of_reading ws BadByte u H = stuck (wrong_token s0 V ws BadByte H)
 
   pub number_reading : IsReader (λ n us. us ≡ Number n ∷ []) number
   unfolding number
   number_reading ws t H v = reading_next s0 V (λ e. e) (λ t. number_of t.0 t.1) (not_here t) refl H v (number_of_reading ws)
 
-  word_of_reading : (ws : List Token) (tok : Token) (u : State) → SoFar s0 V (ws ++ tok ∷ []) u → Reading s0 V (λ e. e) (λ w us. us ≡ Word w ∷ []) ws (word_of tok u)
+  word_of_reading : (ws : List Token) (tok : Token) (u : State) → Took s0 V (ws ++ tok ∷ []) u → Reading s0 V (λ e. e) (λ w us. us ≡ Word w ∷ []) ws (word_of tok u)
   unfolding word_of
-  word_of_reading ws (Word w) u H = read (Word w ∷ []) refl H
-  word_of_reading ws (Number n) u H = stuck (late s0 V H tt)
-  word_of_reading ws (Sign b) u H = stuck (late s0 V H tt)
-  word_of_reading ws BadByte u H = stuck (late s0 V H tt)
+  word_of_reading ws (Word w) u H = read (Word w ∷ []) refl (sound s0 V ws (Word w) tt H)
+  word_of_reading ws (Number n) u H = stuck (wrong_token s0 V ws (Number n) H)
+  word_of_reading ws (Sign b) u H = stuck (wrong_token s0 V ws (Sign b) H)
+  word_of_reading ws BadByte u H = stuck (wrong_token s0 V ws BadByte H)
 
   pub word_reading : IsReader (λ w us. us ≡ Word w ∷ []) word
   unfolding word
@@ -111,15 +110,18 @@ module _ (s0 : State) (V : Sayings) where
       (λ f. let both = neither (eqb n 0) (ltb 65536 (p ^ n)) f in read us (Number n, e.0, (tt, refl, record { above_zero = not_zero n both.0; low = ltb-false 65536 (p ^ n) both.1 })) Hu))
 
   module _ (S : Session) where
-    declared_by_reading : (ws : List Token) (tok : Token) (u : State) → SoFar s0 V (ws ++ tok ∷ []) u → Words s0 V ws
+    declared_by_reading : (ws : List Token) (tok : Token) (u : State) → Took s0 V (ws ++ tok ∷ []) u → Words s0 V ws
         → Reading s0 V (λ e. e) (λ x us. (w : List ℕ) × (us ≡ Word w ∷ []) × Declares S w x.0 x.1) ws (names.declared_by S tok u)
     unfolding names.declared_by word_of
-    declared_by_reading ws (Number n) u H k = stuck (late s0 V H tt)
-    declared_by_reading ws (Sign b) u H k = stuck (late s0 V H tt)
-    declared_by_reading ws BadByte u H k = stuck (late s0 V H tt)
-    declared_by_reading ws (Word w) u H k = by (names.declared_as S w) refl
+    declared_by_reading ws (Number n) u H k = stuck (wrong_token s0 V ws (Number n) H)
+    declared_by_reading ws (Sign b) u H k = stuck (wrong_token s0 V ws (Sign b) H)
+    declared_by_reading ws BadByte u H k = stuck (wrong_token s0 V ws BadByte H)
+    declared_by_reading ws (Word w) u Hw k = by (names.declared_as S w) refl
       where
-        either : (b : Bool) → Fits s0 V (cond b kinds.Kind kinds.Unknown) (toks H.init) (H.last.token ∷ toks u.left)
+        H : SoFar s0 V (ws ++ Word w ∷ []) u
+        H = sound s0 V ws (Word w) tt Hw
+
+        either : (b : Bool) → Fits s0 V (cond b kinds.Kind kinds.Unknown) (toks H.took.init) (H.took.last.token ∷ toks u.left)
         either true = words_at s0 V H refl k
         either false = words_at s0 V H refl k
 
@@ -143,7 +145,7 @@ module _ (s0 : State) (V : Sayings) where
       where
         by : (x : ℕ × Kind) (us : List Token) (u : State) → (w : List ℕ) × (us ≡ Word w ∷ []) × Declares S w x.0 x.1 → SoFar s0 V (ws ++ us) u → (o : Option FaultKind) → kept x.1 ≡ o → IfSome o (λ fault. (ts us : List Token) → Words s0 V ts → Fits s0 V fault ts us)
             → Reading s0 V (λ e. e) (λ x us. (tok : Token) × (us ≡ tok ∷ []) × IsName Is x tok) ws (option_map_or (λ fault. Err (fault_at fault u)) o (Ok (x.0, u)))
-        by x us u d Hu (Some fault) e fits = stuck (late s0 V Hu (fits (toks Hu.init) (Hu.last.token ∷ toks u.left) (words_at s0 V Hu d.1 k)))
+        by x us u d Hu (Some fault) e fits = stuck (late s0 V Hu (fits (toks Hu.took.init) (Hu.took.last.token ∷ toks u.left) (words_at s0 V Hu d.1 k)))
         by x us u d Hu None e fits = read us (Word d.0, d.1, (d.0, refl, each d.0 x.0 d.2.0 d.2.1 (ap kept d.2.2 ∙ e))) Hu
 
     polynomial_refused : Refuses names.as_polynomial
@@ -182,7 +184,7 @@ module _ (s0 : State) (V : Sayings) where
     unfolding names.ideal
     ideal_reading ws t H v k = of_kind_reading (NamesIdeal S) names.as_ideal ideal_refused (as_ideal S) ws (names.declared S t) k (declared_reading ws t H v k)
 
-    pub point_by_reading : (ws : List Token) (tok : Token) (u : State) → SoFar s0 V (ws ++ tok ∷ []) u → Words s0 V ws
+    pub point_by_reading : (ws : List Token) (tok : Token) (u : State) → Took s0 V (ws ++ tok ∷ []) u → Words s0 V ws
         → Reading s0 V (λ e. e) (λ x us. (tok : Token) × (us ≡ tok ∷ []) × IsName (NamesPoint S) x tok) ws (names.point_by S tok u)
     unfolding names.point_by
     point_by_reading ws tok u H k = of_kind_reading (NamesPoint S) names.as_point point_refused (as_point S) ws (names.declared_by S tok u) k (declared_by_reading ws tok u H k)
@@ -233,21 +235,29 @@ module _ (s0 : State) (V : Sayings) where
 -- What was taken so far, where nothing is known of the tokens before it.
 pub wrong_behind : (s0 : State) (U V : Sayings) {ts : List Token} {t : State} → SoFar s0 U ts t → V.Goes ts → Stuck s0 V (fault_of (unexpected t))
 unfolding unexpected
-wrong_behind s0 U V {ts} {t} H v = record { before = H.init ++ H.last ∷ []; rest = t.left; all = all_left s0 U H; at = by t.left; goes_on = subst V.Goes (tokens_all s0 U H) v; fits = unexpected_fits s0 V (toks (H.init ++ H.last ∷ [])) t }
+wrong_behind s0 U V {ts} {t} H v = record {
+  before = H.took.init ++ H.took.last ∷ [];
+  rest = t.left;
+  all = all_left s0 U H.took;
+  at = by t.left;
+  goes_on = subst V.Goes (tokens_all s0 U H.took) v;
+  fits = unexpected_fits s0 V (toks (H.took.init ++ H.took.last ∷ [])) t;
+  blames = unexpected_blames t;
+}
   where
-    by : (us : List Placed) → StandsAt (unexpected (record { left = us; start = t.start; end = t.end })).place us (end_of (H.init ++ H.last ∷ []) s0.end)
-    by [] = H.end ∙ sym (end_last H.init H.last s0.end)
+    by : (us : List Placed) → StandsAt (unexpected (record { left = us; start = t.start; end = t.end })).place us (end_of (H.took.init ++ H.took.last ∷ []) s0.end)
+    by [] = H.took.end ∙ sym (end_last H.took.init H.took.last s0.end)
     by (u ∷ us) = refl
 
-pub taken_behind : (s0 : State) (U V : Sayings) {ts : List Token} {t : State} → SoFar s0 U ts t → V.Goes ts → (p : Placed) (rest : List Placed) → t.left ≡ p ∷ rest → SoFar s0 V (ts ++ p.token ∷ []) (after p rest)
+pub taken_behind : (s0 : State) (U V : Sayings) {ts : List Token} {t : State} → SoFar s0 U ts t → V.Goes ts → (p : Placed) (rest : List Placed) → t.left ≡ p ∷ rest → Took s0 V (ts ++ p.token ∷ []) (after p rest)
 taken_behind s0 U V H v p rest e = record {
-  init = H.init ++ H.last ∷ [];
+  init = H.took.init ++ H.took.last ∷ [];
   last = p;
-  all = all_left s0 U H ∙ ap (λ us. (H.init ++ H.last ∷ []) ++ us) e;
-  tokens = ap (λ us. us ++ p.token ∷ []) (tokens_all s0 U H);
+  all = all_left s0 U H.took ∙ ap (λ us. (H.took.init ++ H.took.last ∷ []) ++ us) e;
+  tokens = ap (λ us. us ++ p.token ∷ []) (tokens_all s0 U H.took);
   start = refl;
   end = refl;
-  goes_on = subst V.Goes (tokens_all s0 U H) v;
+  goes_on = subst V.Goes (tokens_all s0 U H.took) v;
 }
 
 -- ---- the questions of a session

@@ -15,7 +15,6 @@ use Rattle.fj_script.specs.declared.ask.Frobenius.TheVariants as frobenius
 use Rattle.fj_script.specs.declared.ask.TestIdeal.{TestIdeal}
 use Rattle.fj_script.specs.declared.ask.TestIdeal.TheVariants as tests
 use Rattle.fj_script.specs.declared.fault.FaultKind.TheVariants as kinds
-use Rattle.fj_script.specs.declared.fault.LineFault.{LineFault}
 use Rattle.fj_script.specs.declared.question.Question.{Question}
 use Rattle.fj_script.specs.declared.question.Question.TheVariants as questions
 use Rattle.fj_script.specs.Grammar as grammar
@@ -28,7 +27,7 @@ use Rattle.fj_script.specs.Question as question
 use Rattle.fj_script.specs.Question.{Target}
 use Rattle.fj_script.specs.Session.{Session}
 use Rattle.fj_script.proofs.AcceptedYields.{Yields}
-use Rattle.fj_script.proofs.Beginnings.{Numbers, Reading, Sayings, SoFar, Words, behind, front_same, late, numbers_at, read, reading_if, sign_taken, stuck, taken, then_reading, toks}
+use Rattle.fj_script.proofs.Beginnings.{Numbers, Reading, Sayings, SoFar, Took, Words, behind, front_same, late, numbers_at, read, reading_if, sign_taken, stuck, taken, then_reading, toks}
 use Rattle.fj_script.proofs.BeginningLines.{Asks, MayStand, TargetIn, argument_next, ask_goes, ask_with, asks_one, asks_three, asks_two, behind_lines, exponent_argument, ideal_argument, ideal_reading, level_argument, narrow_reading, nonconstant_argument, nonconstant_reading, number_of_reading, point_by_reading, polynomial_argument, taken_behind, target_argument, word_reading, wrong_behind}
 use Rattle.fj_script.proofs.Continuations.{fresh, longest, nothing_ratio, one_above, one_ratio, some_ideal, some_nonconstant, some_point, whole_ratio, wide, wide_ideal, wide_nonconstant, zero_ratio}
 use Rattle.fj_script.proofs.GrammarPieces.{Taken, ratio_of_takes}
@@ -57,7 +56,7 @@ module _ (s0 : State) (V : Sayings) where
       then_reading s0 V (λ e. e) _ (number_behind ws t H v)
       (λ n us u e Hu. reading_if s0 V (λ e. e) (leb (2 ^ 32) n) _ _ (λ _. stuck (late s0 V Hu (numbers_at s0 V Hu e k))) (λ few. read us (e, leb-false _ _ few) Hu))
 
-  ratio_of_reading : (positive : Bool) (m n : ℕ) → m < 2 ^ 32 → n < 2 ^ 32 → (ts us : List Token) (u : State) (H : SoFar s0 V (ts ++ us) u) → Numbers s0 V (toks H.init)
+  ratio_of_reading : (positive : Bool) (m n : ℕ) → m < 2 ^ 32 → n < 2 ^ 32 → (ts us : List Token) (u : State) (H : SoFar s0 V (ts ++ us) u) → Numbers s0 V (toks H.took.init)
       → Reading s0 V (λ e. e) (λ t vs. (vs ≡ us) × Taken positive m n t) ts (numbers.ratio_of positive m n u)
   unfolding numbers.ratio_of
   ratio_of_reading positive m n few fewer ts us u H k = by (numbers.lowest m n) (ratio_of_takes positive m n u few fewer)
@@ -83,10 +82,10 @@ module _ (s0 : State) (V : Sayings) where
       Goal t us = IsRatio us t × (positive ≡ true → 0 < t.numerator)
 
       -- the last number of a fraction
-      last_of : (m n : ℕ) (vs : List Token) (y : State) → vs ≡ Number m ∷ Sign slash ∷ Number n ∷ [] → (Hy : SoFar s0 V (ws ++ vs) y) → Numbers s0 V (ws ++ Number m ∷ Sign slash ∷ []) → Numbers s0 V (toks Hy.init)
+      last_of : (m n : ℕ) (vs : List Token) (y : State) → vs ≡ Number m ∷ Sign slash ∷ Number n ∷ [] → (Hy : SoFar s0 V (ws ++ vs) y) → Numbers s0 V (ws ++ Number m ∷ Sign slash ∷ []) → Numbers s0 V (toks Hy.took.init)
       last_of m n vs y e Hy =
           let split : (ws ++ Number m ∷ Sign slash ∷ []) ++ Number n ∷ [] ≡ ws ++ vs = append_assoc ws (Number m ∷ Sign slash ∷ []) (Number n ∷ []) ∙ ap (λ us. ws ++ us) (sym e) in
-          subst (Numbers s0 V) (front_same (ws ++ Number m ∷ Sign slash ∷ []) (toks Hy.init) (Number n) Hy.last.token (split ∙ Hy.tokens))
+          subst (Numbers s0 V) (front_same (ws ++ Number m ∷ Sign slash ∷ []) (toks Hy.took.init) (Number n) Hy.took.last.token (split ∙ Hy.took.tokens))
 
       whole : (m : ℕ) (us : List Token) → us ≡ Number m ∷ [] → (r : Answer Fraction) → Reading s0 V (λ e. e) (λ t vs. (vs ≡ us) × Taken positive m 1 t) ws r → Reading s0 V (λ e. e) Goal ws r
       whole m us e r (read {x = x} vs h K) = read vs (subst (λ ts. IsRatio ts x) (sym (h.0 ∙ e)) (grammar.whole h.1.0), h.1.1) K
@@ -100,7 +99,8 @@ module _ (s0 : State) (V : Sayings) where
           → Reading s0 V (λ e. e) Goal ws (option_map_or (λ t. narrow t >>= λ n. numbers.ratio_of positive m n.0 n.1) o (numbers.ratio_of positive m 1 u))
       by m us u h Hu None e = whole m us h.0 _ (ratio_of_reading positive m 1 h.1 (omega arith) ws us u Hu (numbers_at s0 V Hu h.0 k))
       by m us u h Hu (Some x) e =
-          let bare : SoFar s0 anything (ws ++ us) u = record { init = Hu.init; last = Hu.last; all = Hu.all; tokens = Hu.tokens; start = Hu.start; end = Hu.end; goes_on = tt } in
+          let read_before : Took s0 anything (ws ++ us) u = record { init = Hu.took.init; last = Hu.took.last; all = Hu.took.all; tokens = Hu.took.tokens; start = Hu.took.start; end = Hu.took.end; goes_on = tt } in
+          let bare : SoFar s0 anything (ws ++ us) u = record { took = read_before; sound = Hu.sound } in
           let slashed = sign_taken s0 anything slash u x bare tt e in
           let here : (ws ++ us) ++ Sign slash ∷ [] ≡ ws ++ Number m ∷ Sign slash ∷ [] = append_assoc ws us (Sign slash ∷ []) ∙ ap (λ vs. ws ++ (vs ++ Sign slash ∷ [])) h.0 in
           let read_n = narrow_behind (ws ++ Number m ∷ Sign slash ∷ []) x (subst (λ vs. SoFar s0 anything vs x) here slashed) (goes m h.1).0 (goes m h.1).1 in

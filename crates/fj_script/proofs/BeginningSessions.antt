@@ -32,7 +32,7 @@ use Rattle.fj_script.proofs.AcceptedYields.{yielded}
 use Rattle.fj_script.proofs.FirstFault.{FirstWrong, first_wrong, line_is, lines_wrong, no_tokens}
 use Rattle.fj_script.proofs.Rising.{AreRising, line_rises, none_before, rising_behind, starts_before, starts_below}
 use Rattle.fj_script.proofs.TwoReadings.{line_from}
-use Rattle.fj_script.proofs.Beginnings.{Reading, SoFar, StandsAt, Stuck, Words, behind, front_same, late, numbers_at, read, reading_if, stuck, then_reading, too_many, toks}
+use Rattle.fj_script.proofs.Beginnings.{Reading, SoFar, StandsAt, Stuck, Took, Words, behind, front_same, late, numbers_at, read, reading_if, sound, stuck, then_reading, too_many, toks, wrong_token}
 use Rattle.fj_script.proofs.BeginningLines.{MayStand, ask_goes, behind_lines, number_reading, within_reading, word_reading}
 use Rattle.fj_script.proofs.BeginningQuestions.{question_reading}
 use Rattle.fj_script.proofs.BeginningStatements.{IsStopped, bare, bare_alike, ideal_stopped, listed_more, listed_reading, point_stopped, poly_stopped, reading_with, stop_end, stop_if, stop_then}
@@ -70,6 +70,9 @@ module _ (s0 : State) where
         subst (λ ws. IsRing (Word (codes "ring") ∷ Number p ∷ ws) (new_session p (vs ++ other_word vs ∷ []))) (sym (append_assoc us (Sign comma ∷ []) (Word (other_word vs) ∷ []))) (grammar.ring known all.0 all.1 all.2),
       )
 
+  eighth : {p : ℕ} {vs : List (List ℕ)} {us : List Token} → Variables vs us → 7 ≤ length vs → IsDoomed (Word (codes "ring") ∷ Number p ∷ (us ++ Sign comma ∷ []))
+  eighth l many = beginning.ring l.0 (omega (arith, many, l.1))
+
   ring_comma : (p : ℕ) (vs : List (List ℕ)) (us : List Token) → Contains primes p → Variables vs us → MayStand None (Word (codes "ring") ∷ Number p ∷ (us ++ Sign comma ∷ []))
   ring_comma p vs us known l = ⊎_elim less full (cases_lt (length vs) 7)
     where
@@ -77,7 +80,7 @@ module _ (s0 : State) where
       less few = let x = variable_next p vs us known l few in inl (Word (other_word vs) ∷ x.0, x.1, x.2)
 
       full : 7 ≤ length vs → MayStand None (Word (codes "ring") ∷ Number p ∷ (us ++ Sign comma ∷ []))
-      full many = inr (beginning.ring l.0 (omega (arith, many, l.1)))
+      full many = inr (eighth l many)
 
   ring_with_prime : CanGoOnWith None (Word (codes "ring") ∷ []) (Number 2)
   ring_with_prime = (Word (other_word []) ∷ [], _, grammar.ring some_prime (one_variable (other_word [])).0 (one_variable (other_word [])).1 (one_variable (other_word [])).2)
@@ -106,15 +109,15 @@ module _ (s0 : State) where
         then_reading s0 (behind_lines None) (λ e. e) _
         (behind s0 (behind_lines None) (λ e. e) {Q = λ w ws. ws ≡ Word w ∷ []} {R = λ w ws. ws ≡ us ++ Sign comma ∷ Word w ∷ []} (Word (codes "ring") ∷ Number p ∷ []) (us ++ Sign comma ∷ []) _
         (word_reading s0 (behind_lines None) (Word (codes "ring") ∷ Number p ∷ (us ++ Sign comma ∷ [])) t H (ring_comma p vs us known l)) (λ w ws e. ap (λ xs. (us ++ Sign comma ∷ []) ++ xs) e ∙ append_assoc us (Sign comma ∷ []) (Word w ∷ [])))
-        (λ w ws u e Hu. reading_if s0 (behind_lines None) (λ e. e) (leb 7 (length vs)) _ _ (λ _. stuck (late s0 (behind_lines None) Hu tt))
+        (λ w ws u e Hu. reading_if s0 (behind_lines None) (λ e. e) (leb 7 (length vs)) _ _ (λ many. stuck (late s0 (behind_lines None) Hu (words_there ws w e Hu (w, inr (inr (eighth l (leb-true 7 (length vs) many)))))))
         (λ few. reading_if s0 (behind_lines None) (λ e. e) (is_some (place_of vs w)) _ _ (λ _. stuck (late s0 (behind_lines None) Hu (words_there ws w e Hu (other_word vs, inr (inl (variable_next p vs us known l (leb-false 7 (length vs) few)))))))
         (λ new. read ws (subst (Variables (vs ++ w ∷ [])) (sym e) (variables_more vs us w l (leb-false 7 (length vs) few) (λ i d inside. unlike w vs (nothing_found _ new) i d inside))) Hu)))
       where
         words_there : (ws : List Token) (w : List ℕ) {u : State} → ws ≡ us ++ Sign comma ∷ Word w ∷ [] → (Hu : SoFar s0 (behind_lines None) ((Word (codes "ring") ∷ Number p ∷ []) ++ ws) u)
-            → Words s0 (behind_lines None) (Word (codes "ring") ∷ Number p ∷ (us ++ Sign comma ∷ [])) → Words s0 (behind_lines None) (toks Hu.init)
+            → Words s0 (behind_lines None) (Word (codes "ring") ∷ Number p ∷ (us ++ Sign comma ∷ [])) → Words s0 (behind_lines None) (toks Hu.took.init)
         words_there ws w e Hu =
             let split : (Word (codes "ring") ∷ Number p ∷ (us ++ Sign comma ∷ [])) ++ Word w ∷ [] ≡ (Word (codes "ring") ∷ Number p ∷ []) ++ ws = ap (λ vs. Word (codes "ring") ∷ Number p ∷ vs) (append_assoc us (Sign comma ∷ []) (Word w ∷ []) ∙ sym e) in
-            subst (Words s0 (behind_lines None)) (front_same (Word (codes "ring") ∷ Number p ∷ (us ++ Sign comma ∷ [])) (toks Hu.init) (Word w) Hu.last.token (split ∙ Hu.tokens))
+            subst (Words s0 (behind_lines None)) (front_same (Word (codes "ring") ∷ Number p ∷ (us ++ Sign comma ∷ [])) (toks Hu.took.init) (Word w) Hu.took.last.token (split ∙ Hu.took.tokens))
 
     variable_first : (t : State) → SoFar s0 (behind_lines None) (Word (codes "ring") ∷ Number p ∷ []) t
         → Reading s0 (behind_lines None) (λ e. e) (λ w ws. Variables (w ∷ []) ws) (Word (codes "ring") ∷ Number p ∷ []) (rings.variable [] t)
@@ -224,11 +227,11 @@ statement_stopped : (s0 : State) (before : Option Session) → IsUsual before �
 unfolding statements.statement word_of
 statement_stopped s0 before h p rest e = by p.token (record { init = []; last = p; all = e; tokens = refl; start = refl; end = refl; goes_on = nothing_stands before h })
   where
-    by : (tok : Token) → SoFar s0 (behind_lines before) (tok ∷ []) (after p rest) → IsStopped s0 (behind_lines before) (statements.statement before tok (after p rest))
-    by (Word w) H = statement_of_stopped s0 before h (statements.keyword_of w) w refl (after p rest) H
-    by (Number n) H = late s0 (behind_lines before) H tt
-    by (Sign b) H = late s0 (behind_lines before) H tt
-    by BadByte H = late s0 (behind_lines before) H tt
+    by : (tok : Token) → Took s0 (behind_lines before) (tok ∷ []) (after p rest) → IsStopped s0 (behind_lines before) (statements.statement before tok (after p rest))
+    by (Word w) H = statement_of_stopped s0 before h (statements.keyword_of w) w refl (after p rest) (sound s0 (behind_lines before) [] (Word w) tt H)
+    by (Number n) H = wrong_token s0 (behind_lines before) [] (Number n) H
+    by (Sign b) H = wrong_token s0 (behind_lines before) [] (Sign b) H
+    by BadByte H = wrong_token s0 (behind_lines before) [] BadByte H
 
 -- A line stops at its fault.
 line_stuck : (before : Option Session) → IsUsual before → (ts : List Placed) (f : LineFault) → line_from before (record { left = ts; start = 0; end = 0 }) ≡ Err f → Stuck (record { left = ts; start = 0; end = 0 }) (behind_lines before) f

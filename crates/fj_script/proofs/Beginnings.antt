@@ -3,7 +3,7 @@ use Rattle.std.proofs.Common.{◌≡◌, ℕ, zero, suc, ◌%◌, ◌≤◌, Boo
 use Rattle.std.specs.FinMap.{empty}
 use Rattle.std.specs.Option.{option_map, option_map_or}
 use Rattle.std.proofs.lemmas.Bool.{eqb-true, leb-false, ltb-false}
-use Rattle.std.proofs.lemmas.List.{append-nil, length-append, map-append}
+use Rattle.std.proofs.lemmas.List.{append-nil, append_cancel_left, length-append, map-append}
 use Rattle.std.proofs.lemmas.Option.{same_Some}
 use Rattle.fj_coeff.specs.Field.{Field, IsField}
 use Rattle.fj_theory.specs.Exponents.{origin}
@@ -43,6 +43,35 @@ front_same [] (u ∷ us) a b e = let long = ap length e in absurd (omega (arith,
 front_same (t ∷ ts) [] a b e = let long = ap length e in absurd (omega (arith, long, length-append ts (a ∷ [])))
 front_same (t ∷ ts) (u ∷ us) a b e = let rest : ts ++ a ∷ [] ≡ us ++ b ∷ [] = cc in let first : t ≡ u = cc in let same = front_same ts us a b rest in cc
 
+pub last_same : (ts us : List Token) (a b : Token) → ts ++ a ∷ [] ≡ us ++ b ∷ [] → a ≡ b
+last_same ts us a b e = let same = append_cancel_left us (a ∷ []) (b ∷ []) (sym (ap (λ vs. vs ++ a ∷ []) (front_same ts us a b e)) ∙ e) in cc
+
+-- A token that isn't a bad byte.
+abbrev pub IsSound : Token → Type 0
+IsSound (Word w) = Unit {0}
+IsSound (Number n) = Unit {0}
+IsSound (Sign b) = Unit {0}
+IsSound BadByte = ⊥
+
+-- At a bad byte no other kind stands.
+abbrev pub Blames : FaultKind → List Placed → Type 0
+Blames k [] = Unit {0}
+Blames k (t ∷ ts) = t.token ≡ BadByte → k ≡ kinds.Byte
+
+sound_blames : (k : FaultKind) (t : Placed) (ts : List Placed) → IsSound t.token → Blames k (t ∷ ts)
+sound_blames k t ts sound e = absurd (subst IsSound e sound)
+
+blame_is : (t : Token) → t ≡ BadByte → kind_of (blame t) ≡ kinds.Byte
+blame_is t e = ap (λ u. kind_of (blame u)) e
+
+pub unexpected_blames : (t : State) → Blames (fault_of (unexpected t)).kind t.left
+unfolding unexpected
+unexpected_blames t = by t.left
+  where
+    by : (us : List Placed) → Blames (fault_of (unexpected (record { left = us; start = t.start; end = t.end }))).kind us
+    by [] = tt
+    by (u ∷ us) = λ e. blame_is u.token e
+
 -- What may be said of tokens: that they can go on, that they can go on with a token, and that there are too many at the last one.
 pub record Sayings : Type 1 where
   pub Goes : List Token → Type 0
@@ -51,8 +80,8 @@ pub record Sayings : Type 1 where
 
 -- A line was read from the state s0 on.
 module _ (s0 : State) (V : Sayings) where
-  -- So far these tokens were read, and before the last one they could go on.
-  pub record SoFar (ts : List Token) (t : State) : Type 0 where
+  -- These tokens were taken so far, and before the last one they could go on.
+  pub record Took (ts : List Token) (t : State) : Type 0 where
     pub init : List Placed
     pub last : Placed
     pub all : s0.left ≡ init ++ last ∷ t.left
@@ -60,6 +89,14 @@ module _ (s0 : State) (V : Sayings) where
     pub start : t.start ≡ last.start
     pub end : t.end ≡ last.end
     pub goes_on : V.Goes (toks init)
+
+  -- The same, and the last one is no bad byte.
+  pub record SoFar (ts : List Token) (t : State) : Type 0 where
+    pub took : Took ts t
+    pub sound : IsSound took.last.token
+
+  pub sound : (ts : List Token) (tok : Token) {t : State} → IsSound tok → Took (ts ++ tok ∷ []) t → SoFar (ts ++ tok ∷ []) t
+  sound ts tok is H = record { took = H; sound = subst IsSound (last_same ts (toks H.init) tok H.last.token H.tokens) is }
 
   -- Tokens can go on with a number, or with a word.
   abbrev pub Numbers : List Token → Type 0
@@ -73,6 +110,7 @@ module _ (s0 : State) (V : Sayings) where
   Fits kinds.Prime ts us = Numbers ts
   Fits kinds.Wide ts us = Numbers ts
   Fits kinds.Range ts us = Numbers ts
+  Fits kinds.Vars ts us = Words ts
   Fits kinds.Taken ts us = Words ts
   Fits kinds.Unknown ts us = Words ts
   Fits kinds.Kind ts us = Words ts
@@ -82,7 +120,6 @@ module _ (s0 : State) (V : Sayings) where
   Fits kinds.Byte ts us = Unit {0}
   Fits kinds.Syntax ts us = Unit {0}
   Fits kinds.NoRing ts us = Unit {0}
-  Fits kinds.Vars ts us = Unit {0}
   Fits kinds.Large ts us = Unit {0}
   Fits kinds.Arity ts us = Unit {0}
 
@@ -94,6 +131,13 @@ module _ (s0 : State) (V : Sayings) where
     pub at : StandsAt f.column rest (end_of before s0.end)
     pub goes_on : V.Goes (toks before)
     pub fits : Fits f.kind (toks before) (toks rest)
+    pub blames : Blames f.kind rest
+
+  blame_fits : (tok : Token) (ts us : List Token) → Fits (kind_of (blame tok)) ts us
+  blame_fits (Word w) ts us = tt
+  blame_fits (Number n) ts us = tt
+  blame_fits (Sign b) ts us = tt
+  blame_fits BadByte ts us = tt
 
   -- What was read behind these tokens, or such a fault.
   pub data Reading {E A : Type 0} (fault : E → LineFault) (Q : A → List Token → Type 0) (ts : List Token) : Result (A × State) E → Type 0 where
@@ -101,57 +145,70 @@ module _ (s0 : State) (V : Sayings) where
     stuck : {e : E} → Stuck (fault e) → Reading fault Q ts (Err e)
 
   -- a fault at the token that was taken last
-  pub late : {k : FaultKind} {ts : List Token} {t : State} (H : SoFar ts t) → Fits k (toks H.init) (H.last.token ∷ toks t.left) → Stuck (record { kind = k; column = t.start })
-  late {k} {ts} {t} H fits = record { before = H.init; rest = H.last ∷ t.left; all = H.all; at = H.start; goes_on = H.goes_on; fits = fits }
+  pub late : {k : FaultKind} {ts : List Token} {t : State} (H : SoFar ts t) → Fits k (toks H.took.init) (H.took.last.token ∷ toks t.left) → Stuck (record { kind = k; column = t.start })
+  late {k} {ts} {t} H fits = record { before = H.took.init; rest = H.took.last ∷ t.left; all = H.took.all; at = H.took.start; goes_on = H.took.goes_on; fits = fits; blames = sound_blames k H.took.last t.left H.sound }
+
+  -- the same, where it may not stand
+  pub wrong_token : (ts : List Token) (tok : Token) {t : State} → Took (ts ++ tok ∷ []) t → Stuck (record { kind = kind_of (blame tok); column = t.start })
+  wrong_token ts tok {t} H = record {
+    before = H.init;
+    rest = H.last ∷ t.left;
+    all = H.all;
+    at = H.start;
+    goes_on = H.goes_on;
+    fits = blame_fits tok (toks H.init) (H.last.token ∷ toks t.left);
+    blames = λ e. blame_is tok (last_same ts (toks H.init) tok H.last.token H.tokens ∙ e);
+  }
 
   -- before a number, and before a word
-  pub numbers_at : {ws us : List Token} {n : ℕ} {u : State} (H : SoFar (ws ++ us) u) → us ≡ Number n ∷ [] → Numbers ws → Numbers (toks H.init)
-  numbers_at {ws} {us} {n} H e k = subst Numbers (front_same ws (toks H.init) (Number n) H.last.token (ap (λ vs. ws ++ vs) (sym e) ∙ H.tokens)) k
+  pub numbers_at : {ws us : List Token} {n : ℕ} {u : State} (H : SoFar (ws ++ us) u) → us ≡ Number n ∷ [] → Numbers ws → Numbers (toks H.took.init)
+  numbers_at {ws} {us} {n} H e k = subst Numbers (front_same ws (toks H.took.init) (Number n) H.took.last.token (ap (λ vs. ws ++ vs) (sym e) ∙ H.took.tokens)) k
 
-  pub words_at : {ws us : List Token} {w : List ℕ} {u : State} (H : SoFar (ws ++ us) u) → us ≡ Word w ∷ [] → Words ws → Words (toks H.init)
-  words_at {ws} {us} {w} H e k = subst Words (front_same ws (toks H.init) (Word w) H.last.token (ap (λ vs. ws ++ vs) (sym e) ∙ H.tokens)) k
+  pub words_at : {ws us : List Token} {w : List ℕ} {u : State} (H : SoFar (ws ++ us) u) → us ≡ Word w ∷ [] → Words ws → Words (toks H.took.init)
+  words_at {ws} {us} {w} H e k = subst Words (front_same ws (toks H.took.init) (Word w) H.took.last.token (ap (λ vs. ws ++ vs) (sym e) ∙ H.took.tokens)) k
 
   pub too_many : {ts : List Token} {t : State} → SoFar ts t → V.Many ts → Stuck (record { kind = kinds.Many; column = t.start })
-  too_many {ts} {t} H many = late H (H.last.token, toks t.left, refl, subst V.Many H.tokens many)
+  too_many {ts} {t} H many = late H (H.took.last.token, toks t.left, refl, subst V.Many H.took.tokens many)
 
-  pub tokens_all : {ts : List Token} {t : State} (H : SoFar ts t) → ts ≡ toks (H.init ++ H.last ∷ [])
+  pub tokens_all : {ts : List Token} {t : State} (H : Took ts t) → ts ≡ toks (H.init ++ H.last ∷ [])
   tokens_all H = H.tokens ∙ sym (map-append (λ (t : Placed). t.token) H.init (H.last ∷ []))
 
-  pub all_left : {ts : List Token} {t : State} (H : SoFar ts t) → s0.left ≡ (H.init ++ H.last ∷ []) ++ t.left
+  pub all_left : {ts : List Token} {t : State} (H : Took ts t) → s0.left ≡ (H.init ++ H.last ∷ []) ++ t.left
   all_left {ts} {t} H = H.all ∙ sym (append_assoc H.init (H.last ∷ []) t.left)
 
-  -- Of a token that may not stand there nothing is said.
   pub unexpected_fits : (ts : List Token) (t : State) → Fits (fault_of (unexpected t)).kind ts (toks t.left)
   unfolding unexpected
   unexpected_fits ts t = by t.left
     where
-      of_token : (tok : Token) (us : List Token) → Fits (kind_of (blame tok)) ts us
-      of_token (Word w) us = tt
-      of_token (Number n) us = tt
-      of_token (Sign b) us = tt
-      of_token BadByte us = tt
-
       by : (us : List Placed) → Fits (fault_of (unexpected (record { left = us; start = t.start; end = t.end }))).kind ts (toks us)
       by [] = tt
-      by (u ∷ us) = of_token u.token (toks (u ∷ us))
+      by (u ∷ us) = blame_fits u.token ts (toks (u ∷ us))
 
   pub wrong_next : {ts : List Token} {t : State} → SoFar ts t → V.Goes ts → Stuck (fault_of (unexpected t))
   unfolding unexpected
-  wrong_next {ts} {t} H v = record { before = H.init ++ H.last ∷ []; rest = t.left; all = all_left H; at = by t.left; goes_on = subst V.Goes (tokens_all H) v; fits = unexpected_fits (toks (H.init ++ H.last ∷ [])) t }
+  wrong_next {ts} {t} H v = record {
+    before = H.took.init ++ H.took.last ∷ [];
+    rest = t.left;
+    all = all_left H.took;
+    at = by t.left;
+    goes_on = subst V.Goes (tokens_all H.took) v;
+    fits = unexpected_fits (toks (H.took.init ++ H.took.last ∷ [])) t;
+    blames = unexpected_blames t;
+  }
     where
-      by : (us : List Placed) → StandsAt (unexpected (record { left = us; start = t.start; end = t.end })).place us (end_of (H.init ++ H.last ∷ []) s0.end)
-      by [] = H.end ∙ sym (end_last H.init H.last s0.end)
+      by : (us : List Placed) → StandsAt (unexpected (record { left = us; start = t.start; end = t.end })).place us (end_of (H.took.init ++ H.took.last ∷ []) s0.end)
+      by [] = H.took.end ∙ sym (end_last H.took.init H.took.last s0.end)
       by (u ∷ us) = refl
 
-  pub taken : {ts : List Token} {t : State} → SoFar ts t → V.Goes ts → (p : Placed) (rest : List Placed) → t.left ≡ p ∷ rest → SoFar (ts ++ p.token ∷ []) (after p rest)
+  pub taken : {ts : List Token} {t : State} → SoFar ts t → V.Goes ts → (p : Placed) (rest : List Placed) → t.left ≡ p ∷ rest → Took (ts ++ p.token ∷ []) (after p rest)
   taken H v p rest e = record {
-    init = H.init ++ H.last ∷ [];
+    init = H.took.init ++ H.took.last ∷ [];
     last = p;
-    all = all_left H ∙ ap (λ us. (H.init ++ H.last ∷ []) ++ us) e;
-    tokens = ap (λ us. us ++ p.token ∷ []) (tokens_all H);
+    all = all_left H.took ∙ ap (λ us. (H.took.init ++ H.took.last ∷ []) ++ us) e;
+    tokens = ap (λ us. us ++ p.token ∷ []) (tokens_all H.took);
     start = refl;
     end = refl;
-    goes_on = subst V.Goes (tokens_all H) v;
+    goes_on = subst V.Goes (tokens_all H.took) v;
   }
 
   pub regrouped : (ts us vs : List Token) {t : State} → SoFar ((ts ++ us) ++ vs) t → SoFar (ts ++ (us ++ vs)) t
@@ -164,14 +221,14 @@ module _ (s0 : State) (V : Sayings) where
   unfolding after_sign next
   sign_taken {ws} b t u H v is = by t.left refl is
     where
-      test : (p : Placed) (rest : List Placed) (tok : Token) → SoFar (ws ++ tok ∷ []) (after p rest) → cond (is_the_sign b tok) (Some (after p rest)) None ≡ Some u → SoFar (ws ++ Sign b ∷ []) u
+      test : (p : Placed) (rest : List Placed) (tok : Token) → Took (ws ++ tok ∷ []) (after p rest) → cond (is_the_sign b tok) (Some (after p rest)) None ≡ Some u → SoFar (ws ++ Sign b ∷ []) u
       test p rest (Word w) K e = absurd cc
       test p rest (Number n) K e = absurd cc
       test p rest BadByte K e = absurd cc
       test p rest (Sign s) K e = at (eqb s b) refl e
         where
           at : (c : Bool) → eqb s b ≡ c → cond c (Some (after p rest)) None ≡ Some u → SoFar (ws ++ Sign b ∷ []) u
-          at true same h = subst (SoFar (ws ++ Sign b ∷ [])) (same_Some _ _ h) (subst (λ n. SoFar (ws ++ Sign n ∷ []) (after p rest)) (eqb-true s b same) K)
+          at true same h = subst (SoFar (ws ++ Sign b ∷ [])) (same_Some _ _ h) (subst (λ n. SoFar (ws ++ Sign n ∷ []) (after p rest)) (eqb-true s b same) (sound ws (Sign s) tt K))
           at false same h = absurd cc
 
       by : (us : List Placed) → t.left ≡ us → after_sign b (record { left = us; start = t.start; end = t.end }) ≡ Some u → SoFar (ws ++ Sign b ∷ []) u
@@ -195,7 +252,7 @@ module _ (s0 : State) (V : Sayings) where
 
     -- the next token
     pub reading_next : {A : Type 0} {Q : A → List Token → Type 0} {ts ws : List Token} {t : State} (f : Token × State → Result (A × State) E) (wrong : E) → fault wrong ≡ fault_of (unexpected t) → SoFar ws t → V.Goes ws
-        → ((tok : Token) (u : State) → SoFar (ws ++ tok ∷ []) u → Reading fault Q ts (f (tok, u))) → Reading fault Q ts (option_map_or f (next t) (Err wrong))
+        → ((tok : Token) (u : State) → Took (ws ++ tok ∷ []) u → Reading fault Q ts (f (tok, u))) → Reading fault Q ts (option_map_or f (next t) (Err wrong))
     unfolding next
     reading_next {A} {Q} {ts} {ws} {t} f wrong is H v each = by t.left refl
       where
@@ -362,15 +419,17 @@ module _ {F : Field} (L : IsField F) (meaning : List ℕ → Meaning) where
           known w u Hu meanings.Unknown e = stuck (late s0 V Hu (words_at s0 V Hu refl a_word))
           known w u Hu meanings.OtherKind e = stuck (late s0 V Hu (words_at s0 V Hu refl a_word))
 
-          each : (tok : Token) (u : State) → SoFar s0 V (ts ++ tok ∷ []) u → Reading s0 V fault_of (Atom d) ts (text.atom_of F meaning (text.parenthesised F meaning d) tok u)
-          each (Number n) u Hu = reading_if s0 V fault_of (text.is_wide n) _ _ (λ _. stuck (late s0 V Hu (numbers_at s0 V Hu refl a_number))) (λ e. read (Number n ∷ []) (grammar.number (leb-false _ _ e), fine_constant L n) Hu)
-          each (Word w) u Hu = known w u Hu (meaning w) refl
-          each BadByte u Hu = stuck (late s0 V Hu tt)
+          each : (tok : Token) (u : State) → Took s0 V (ts ++ tok ∷ []) u → Reading s0 V fault_of (Atom d) ts (text.atom_of F meaning (text.parenthesised F meaning d) tok u)
+          each (Number n) u Hu =
+              let Hn = sound s0 V ts (Number n) tt Hu in
+              reading_if s0 V fault_of (text.is_wide n) _ _ (λ _. stuck (late s0 V Hn (numbers_at s0 V Hn refl a_number))) (λ e. read (Number n ∷ []) (grammar.number (leb-false _ _ e), fine_constant L n) Hn)
+          each (Word w) u Hu = known w u (sound s0 V ts (Word w) tt Hu) (meaning w) refl
+          each BadByte u Hu = stuck (wrong_token s0 V ts BadByte Hu)
           each (Sign s) u Hu =
               reading_if s0 V fault_of (eqb s opening) _ _
-              (λ e. let Ho = subst (λ n. SoFar s0 V (ts ++ Sign n ∷ []) u) (eqb-true s opening e) Hu in
+              (λ e. let Ho = subst (λ n. SoFar s0 V (ts ++ Sign n ∷ []) u) (eqb-true s opening e) (sound s0 V ts (Sign s) tt Hu) in
               behind s0 V fault_of ts (Sign opening ∷ []) _ (I (ts ++ Sign opening ∷ []) u Ho (λ us g. behind_one ts us (Sign opening) (K (Sign opening ∷ us) g))) (λ f us h. h))
-              (λ e. stuck (late s0 V Hu tt))
+              (λ e. stuck (wrong_token s0 V ts (Sign s) Hu))
 
       factor_reading : (ts : List Token) (t : State) → SoFar s0 V ts t → ((us : List Token) → GoesOnFactor d us → V.Goes (ts ++ us))
           → Reading s0 V fault_of (Factor d) ts (text.factor F meaning (text.parenthesised F meaning d) t)
@@ -387,11 +446,12 @@ module _ {F : Field} (L : IsField F) (meaning : List ℕ → Meaning) where
               let goes = K (us ++ Sign caret ∷ Number 0 ∷ []) ([], term 1 origin, subst (λ ws. IsFactor F meaning d ws (term 1 origin)) (sym (append-nil (us ++ Sign caret ∷ Number 0 ∷ []))) (power_goes d us f h), inr refl) in
               (0, inl (subst V.Goes (ap (λ ws. ts ++ ws) (sym (append_assoc us (Sign caret ∷ []) (Number 0 ∷ []))) ∙ sym (append_assoc ts (us ++ Sign caret ∷ []) (Number 0 ∷ []))) goes))
 
-          exponent : (f : Polynomial) (us : List Token) → Atom d f us → (tok : Token) (w : State) → SoFar s0 V ((ts ++ (us ++ Sign caret ∷ [])) ++ tok ∷ []) w → Reading s0 V fault_of (Exponent us) ts (text.exponent_of tok w)
-          exponent f us h (Word x) w Hw = stuck (late s0 V Hw tt)
-          exponent f us h (Sign x) w Hw = stuck (late s0 V Hw tt)
-          exponent f us h BadByte w Hw = stuck (late s0 V Hw tt)
-          exponent f us h (Number k) w Hw =
+          exponent : (f : Polynomial) (us : List Token) → Atom d f us → (tok : Token) (w : State) → Took s0 V ((ts ++ (us ++ Sign caret ∷ [])) ++ tok ∷ []) w → Reading s0 V fault_of (Exponent us) ts (text.exponent_of tok w)
+          exponent f us h (Word x) w Hw = stuck (wrong_token s0 V (ts ++ (us ++ Sign caret ∷ [])) (Word x) Hw)
+          exponent f us h (Sign x) w Hw = stuck (wrong_token s0 V (ts ++ (us ++ Sign caret ∷ [])) (Sign x) Hw)
+          exponent f us h BadByte w Hw = stuck (wrong_token s0 V (ts ++ (us ++ Sign caret ∷ [])) BadByte Hw)
+          exponent f us h (Number k) w Ho =
+              let Hw = sound s0 V (ts ++ (us ++ Sign caret ∷ [])) (Number k) tt Ho in
               reading_if s0 V fault_of (text.is_wide k) _ _ (λ _. stuck (late s0 V Hw (numbers_at s0 V Hw refl (a_number f us h))))
               (λ _. reading_if s0 V fault_of (ltb 1000 k) _ _ (λ _. stuck (late s0 V Hw tt))
               (λ e. read (us ++ Sign caret ∷ Number k ∷ []) (refl, ltb-false _ _ e)

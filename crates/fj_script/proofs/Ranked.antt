@@ -1,6 +1,6 @@
 -- The kind of a fault is the highest at its place.
-use Rattle.std.proofs.Common.{◌≡◌, ◌≢◌, ℕ, zero, ◌+◌, ◌-◌, ◌<◌, List, [], ◌∷◌, ◌++◌, length, map, drop, get_or, Contains, Option, Some, None, Result, Ok, Err, codes, refl, sym, ap, ◌∙◌, subst, arith, append_assoc, inl, inr, ◌⊎◌}
-use Rattle.std.proofs.lemmas.List.{append_cancel_left, map-append}
+use Rattle.std.proofs.Common.{◌≡◌, ◌≢◌, ℕ, zero, ◌+◌, ◌-◌, ◌<◌, List, [], ◌∷◌, ◌++◌, length, map, drop, get_or, All, Contains, Option, Some, None, Result, Ok, Err, codes, refl, sym, ap, ◌∙◌, subst, arith, append_assoc, inl, inr, ◌⊎◌}
+use Rattle.std.proofs.lemmas.List.{append-nil, map-append}
 use Rattle.std.proofs.lemmas.List.Elements.{Contains-append_left}
 use Rattle.fj_text.specs.State.{State, after, end_of, next}
 use Rattle.fj_text.specs.Token.{Token, Word, Number, Sign, BadByte, Placed, tokens_from}
@@ -22,10 +22,10 @@ use Rattle.fj_script.specs.Statement as statements
 use Rattle.fj_script.proofs.BeginningLines.{AreMany, MayFollow, MayStand, behind_lines}
 use Rattle.fj_script.proofs.BeginningSessions.{before_is, made_before, stuck_at}
 use Rattle.fj_script.proofs.Beginnings as Said
-use Rattle.fj_script.proofs.Beginnings.{front_same, toks}
+use Rattle.fj_script.proofs.Beginnings.{last_same, toks}
 use Rattle.fj_script.proofs.FirstFault.{FirstWrong, first_wrong, line_is, lines_wrong}
 use Rattle.fj_script.proofs.Ranks as ranks
-use Rattle.fj_script.proofs.Rising.{AreRising, line_rises}
+use Rattle.fj_script.proofs.Rising.{AreRising, line_rises, starts_below}
 use Rattle.fj_script.proofs.TwoReadings.{line_from}
 
 abbrev OfRing : Option Keyword → Type 0
@@ -101,9 +101,6 @@ ring_line (t ∷ ts) us e = by t.token (let first : t.token ≡ Word (codes "rin
 
 -- ---- what stands before the place, and may stand at it
 
-last_same : (ts us : List Token) (a b : Token) → ts ++ a ∷ [] ≡ us ++ b ∷ [] → a ≡ b
-last_same ts us a b e = let same = append_cancel_left us (a ∷ []) (b ∷ []) (sym (ap (λ vs. vs ++ a ∷ []) (front_same ts us a b e)) ∙ e) in cc
-
 -- The two beginnings that can't go on end with a sign.
 doomed_sign : {us : List Token} → IsDoomed us → (ts : List Token) (t : Token) → us ≡ ts ++ t ∷ [] → (b : ℕ) × (t ≡ Sign b)
 doomed_sign (beginning.ring {p} {vs} {ts = names} l full) ts t e = (comma, last_same ts (Word (codes "ring") ∷ Number p ∷ names) t (Sign comma) (sym e))
@@ -143,7 +140,8 @@ module _ (s0 : State) (before : Option Session) (ts us : List Token) (k : FaultK
       by (inl e) = subst As e h
       by (inr (inl e)) = subst As e h
       by (inr (inr (inl e))) = subst As e h
-      by (inr (inr (inr e))) = subst As e h
+      by (inr (inr (inr (inl e)))) = subst As e h
+      by (inr (inr (inr (inr e)))) = subst As e h
 
 too_many_of : (ls : List (List Token)) (before : Option Session) (ts : List Token) → MakeSession ls before → AreMany before ts → (S : Session) × IsSession ls S × AreTooMany S ts
 too_many_of ls None ts made many = absurd many
@@ -153,6 +151,7 @@ too_many_of ls (Some S) ts made many = (S, made, many)
 
 pub kind_highest : KindIsHighest
 kind_highest bytes place H e = record {
+  byte_over_others = λ stands. bad_there stands K.rest K.all K.at K.blames;
   syntax_over_number = λ is. let x = number_follows s0 w.session (toks K.before) (toks K.rest) place.kind fits is in (x.0, (w.session, made, subst (λ ts. MayFollow w.session ts (Number x.0)) (sym (ap toks before_it)) x.1));
   syntax_over_word = λ is. let x = word_follows s0 w.session (toks K.before) (toks K.rest) place.kind fits is in (x.0, (w.session, made, subst (λ ts. MayFollow w.session ts (Word x.0)) (sym (ap toks before_it)) x.1));
   syntax_over_arity = λ is stands.
@@ -219,6 +218,17 @@ kind_highest bytes place H e = record {
 
     fits : Said.Fits s0 (behind_lines w.session) place.kind (toks K.before) (toks K.rest)
     fits = subst (λ k. Said.Fits s0 (behind_lines w.session) k (toks K.before) (toks K.rest)) kind_same K.fits
+
+    bad_there : StandsAt place bytes BadByte → (rest : List Placed) → all ≡ K.before ++ rest → Said.StandsAt w.found.column rest (end_of K.before 0) → Said.Blames w.found.kind rest → place.kind ≡ kinds.Byte
+    bad_there stands [] whole at blames =
+        let below : All (λ t. t.start < end_of K.before 0) all = subst (All (λ (t : Placed). t.start < end_of K.before 0)) (sym (whole ∙ append-nil K.before)) (starts_below 0 K.before [] (subst (AreRising 0) whole rises)) in
+        let there = inside stands.1 in
+        let early : stands.0.start < end_of K.before 0 = subst (λ (t : Placed). t.start < end_of K.before 0) there.2 (below there.0 stands.0 there.1) in
+        let column = column_of stands.0 stands.2 in
+        absurd (omega (arith, early, column, at))
+    bad_there stands (p ∷ ps) whole at blames =
+        let same = ranks.token_is all R rises w.found.column K.before ps p whole (sym at) stands.0 (inside stands.1) (column_of stands.0 stands.2) in
+        sym kind_same ∙ blames (sym same ∙ stands.3)
 
     -- the token at the place
     token_there : (t u : Token) (us : List Token) → StandsAt place bytes t → (rest : List Placed) → all ≡ K.before ++ rest → Said.StandsAt w.found.column rest (end_of K.before 0) → toks rest ≡ u ∷ us → u ≡ t

@@ -1,6 +1,6 @@
 -- The rank of kinds at the place of a fault: of each two that could stand at one place, the higher one is told.
 use Rattle.std.specs.Prelude.{◌≡◌, ◌≢◌, ℕ, zero, ◌+◌, ◌-◌, ◌^◌, ◌<◌, ◌≤◌, ◌⊎◌, List, [], ◌∷◌, ◌++◌, length, map, take, All, Contains, Option, Err, codes}
-use Rattle.fj_text.specs.Token.{Token, Word, Number, Sign, Placed, opening, closing, tokens_from}
+use Rattle.fj_text.specs.Token.{Token, Word, Number, Sign, BadByte, Placed, opening, closing, tokens_from}
 use Rattle.fj_script.specs.declared.fault.Fault.{Fault}
 use Rattle.fj_script.specs.declared.fault.FaultKind.{FaultKind}
 use Rattle.fj_script.specs.declared.fault.FaultKind.TheVariants as kinds
@@ -36,7 +36,7 @@ abbrev pub IsOfNumber : FaultKind → Type 0
 IsOfNumber kind = (kind ≡ kinds.Prime) ⊎ (kind ≡ kinds.Wide) ⊎ (kind ≡ kinds.Range)
 
 abbrev pub IsOfWord : FaultKind → Type 0
-IsOfWord kind = (kind ≡ kinds.Taken) ⊎ (kind ≡ kinds.Unknown) ⊎ (kind ≡ kinds.Kind) ⊎ (kind ≡ kinds.Constant)
+IsOfWord kind = (kind ≡ kinds.Vars) ⊎ (kind ≡ kinds.Taken) ⊎ (kind ≡ kinds.Unknown) ⊎ (kind ≡ kinds.Kind) ⊎ (kind ≡ kinds.Constant)
 
 abbrev pub Declares : List ℕ → Type 0
 Declares keyword = (keyword ≡ codes "poly") ⊎ (keyword ≡ codes "ideal") ⊎ (keyword ≡ codes "point")
@@ -53,6 +53,7 @@ pub data AreTooMany (S : Session) : List Token → Type 0 where
 
 -- Of two kinds that could stand at one place the lower one is told only where the higher one doesn't stand.
 pub record IsHighest (bytes : List ℕ) (place : Fault) : Type 0 where
+  pub byte_over_others : StandsAt place bytes BadByte → place.kind ≡ kinds.Byte
   -- where something is wrong with a number, a number may stand, and where something is wrong with a word, a word
   pub syntax_over_number : IsOfNumber place.kind → (n : ℕ) × MayStandAt place bytes (Number n)
   pub syntax_over_word : IsOfWord place.kind → (w : List ℕ) × MayStandAt place bytes (Word w)
