@@ -51,7 +51,7 @@ fn reads(rt: &impl Abort, alloc: Global, session: &str) -> Result<Script, Fail> 
 }
 
 // Sessions and their first faults.
-static FAULTS: [Row; 179] = [
+static FAULTS: [Row; 193] = [
     ("", NoRing, 1, 1),
     ("ring 4 x", Prime, 1, 6),
     ("ring 2 x, x", Taken, 1, 11),
@@ -521,10 +521,24 @@ static FAULTS: [Row; 179] = [
     ),
     ("ring 2 x, y|poly f = y+zz|ring 3 x", Unknown, 2, 12),
     ("ring 2 x,y#&|poly f = & # y", Byte, 2, 10),
+    ("\u{feff}ring 2 x", Byte, 1, 1),
+    ("ring 2 x\u{c}", Byte, 1, 9),
+    ("ring 2 x\u{0}y", Byte, 1, 9),
+    ("ring 2 x|\rpoly f =\ry", Unknown, 2, 11),
+    ("ring 18446744073709551618 x", Prime, 1, 6),
+    ("let T = basis J", Syntax, 1, 1),
+    ("ring 2 x|poly f = g|poly g = x", Unknown, 2, 10),
+    ("ring 2 x|ideal J = (x,)", Syntax, 2, 14),
+    ("ring 2 x|poly z = x-x|ask test z 1", Constant, 3, 10),
+    ("ring 2 x|ideal J = (x)|ask fpure J zz", Unknown, 3, 13),
+    ("ring 2 x|ask Basis J", Syntax, 2, 5),
+    ("ring 2 x|ask parts 4294967296 f", Wide, 2, 11),
+    ("ring 2 x|poly f = x|ask jumps f 4294967296", Wide, 3, 13),
+    ("ring 2 x|poly f = x|ask jumps f -1", Syntax, 3, 13),
 ];
 
 // Sessions without a fault.
-static ACCEPTED: [&'static str; 13] = [
+static ACCEPTED: [&'static str; 15] = [
     "ring 2x",
     "ring 02 x",
     "ring 2 ring, ask|poly poly = ring*ask|ask parts 1 poly",
@@ -538,6 +552,8 @@ static ACCEPTED: [&'static str; 13] = [
     "ring 2 x,y,z,w|poly f = (x+y+z+w)^16*(x+y+z+w)^16",
     "ring 2 x, y|poly f = x|poly c = 1|ideal J = (x)|point P = (0, 1)|point Q = (-0, - 5)|ask parts 0 c|ask parts 12 f|ask test f 0|ask test f 8|ask test f 2/131070|ask left f 1/65535|ask regular f 4294967295/4294967295|ask isjump f 0016/2|ask jumps f 16|ask nu 001 f J|ask threshold f J 1|ask threshold f P 1|ask fpure J|ask fpure J P|ask member c J|ask compatible 1 c J|ask split J|ask basis J|ask same J J|ask sum J J|ask product J J|ask meet J J|ask colon J J|ask power 12 J|ask root 0 J",
     "|#|ring 2 a, b, c, d, e, f, g#h",
+    "ring 2 x|poly f = (x)+(x)+(x)+(x)+(x)+(x)+(x)+(x)+(x)+(x)+(x)+(x)+(x)+(x)+(x)+(x)+(x)+(x)+(x)+(x)+(x)+(x)+(x)+(x)+(x)+(x)+(x)+(x)+(x)+(x)+(x)+(x)+(x)+(x)+(x)+(x)+(x)+(x)+(x)+(x)+(x)+(x)+(x)+(x)+(x)+(x)+(x)+(x)+(x)+(x)+(x)+(x)+(x)+(x)+(x)+(x)+(x)+(x)+(x)+(x)+(x)+(x)+(x)+(x)+(x)",
+    "ring 2 x, _1|poly z = 0|poly f = x+_1|ideal O = (0)|ideal U = (1)|budget 1|budget 10000000|ask parts 0 z|ask member z O|ask compatible 0 z U|ask nu 0 f O|ask threshold f U 1|ask power 0 U|ask regular f 0|ask test f 0/7",
 ];
 
 #[test]
@@ -575,8 +591,10 @@ fn limits(rt: HostRuntime) -> Result<(), Fail> {
     fails(&rt, alloc, &repeated(alloc, b"\n", 1048577)?, (Long, 1, 1))?;
     // so many names and questions
     let mut session = Vec::new(alloc);
-    session.extend_from_slice(b"ring 2 x\n")?;
-    for i in 0..4096 {
+    session.extend_from_slice(
+        b"ring 2 x\nideal J = (x)\npoint P = (1)\nask basis J\nask basis J\n",
+    )?;
+    for i in 2..4096 {
         session.extend_from_slice(format!(in alloc;
             "poly n{i} = x\nask parts 1 n{i}\n"
         )?.as_bytes())?;
@@ -594,6 +612,9 @@ fn limits(rt: HostRuntime) -> Result<(), Fail> {
     session.truncate(asked);
     session.extend_from_slice(b" point n4096")?;
     fails(&rt, alloc, &session, (Many, 8194, 8))?;
+    session.truncate(asked);
+    session.extend_from_slice(b"poly 2")?;
+    fails(&rt, alloc, &session, (Syntax, 8194, 6))?;
     Ok(())
 }
 
@@ -611,10 +632,15 @@ fn a_million_terms(rt: HostRuntime) -> Result<(), Fail> {
         session.extend_from_slice(THOUSAND)?;
         session.push(b'\n')?;
     }
-    session.extend_from_slice(b"poly f = x - x\n")?;
+    session.extend_from_slice(b"poly f = x - x\npoint P = (1)\n")?;
     assert!(rt; read_script(alloc, &session).is_ok());
-    session.extend_from_slice(b"ideal J = (0, (x) )")?;
-    fails(&rt, alloc, &session, (Many, 1003, 17))?;
+    // the term too many is known before the bad byte, and at its place Large is higher
+    let full = session.len();
+    session.extend_from_slice(b"ideal J = (0, (x) &")?;
+    fails(&rt, alloc, &session, (Many, 1004, 17))?;
+    session.truncate(full);
+    session.extend_from_slice(b"poly g = x^1000*x")?;
+    fails(&rt, alloc, &session, (Large, 1004, 17))?;
     Ok(())
 }
 
@@ -624,7 +650,7 @@ fn values_and_questions(rt: HostRuntime) -> Result<(), Fail> {
     let script = reads(
         &rt,
         alloc,
-        "ring 3 x, y|ideal J = (x*y, 0, -1)|poly f = x*y+4*x^3+y^2|order lex|ask fpure J|budget 7|point P = (-1, 5)|ask threshold f P 2|ask test f 6/8|",
+        "ring 3 x, y, z|ideal J = (x*y, 0, -1)|poly f = x*y+4*x^3+y^2|order lex|ask fpure J|budget 7|point P = (-1, 5, -0)|ask threshold f P 2|ask test f 6/8|",
     )?;
     holds(&rt, &script)
 }
@@ -632,7 +658,7 @@ fn values_and_questions(rt: HostRuntime) -> Result<(), Fail> {
 // What that session holds.
 fn holds(rt: &impl Abort, script: &Script) -> Result<(), Fail> {
     assert_eq!(rt; script.env.p, 3);
-    assert_eq!(rt; script.env.vars.len(), 2);
+    assert_eq!(rt; script.env.vars.len(), 3);
     declared(rt, &script.env.values)?;
     questions(rt, &script.asked)
 }
@@ -659,9 +685,10 @@ fn declared(rt: &impl Abort, values: &ValueList) -> Result<(), Fail> {
         panic!(rt; "J is an ideal");
     }
     if let (_, Value::Point(p)) = values.get(2) {
-        assert_eq!(rt; p.len(), 2);
+        assert_eq!(rt; p.len(), 3);
         assert_eq!(rt; *p.get(0), 2);
         assert_eq!(rt; *p.get(1), 2);
+        assert_eq!(rt; *p.get(2), 0);
     } else {
         panic!(rt; "P is a point");
     }
