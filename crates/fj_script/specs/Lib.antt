@@ -13,8 +13,3 @@ pub mod Refusals
 pub mod Taken
 pub mod Limits
 pub mod Lines
-pub mod Grammar
-pub mod GrammarLaws
-pub mod FirstFault
-pub mod Beginning
-pub mod Rank

@@ -4,7 +4,7 @@ ghost use Rattle.fj_script.specs.Question.{ask_of, is_above_zero};
 
 /// The word that names a question.
 #[derive(Clone, Copy)]
-pub(crate) enum Ask {
+pub enum Ask {
     Parts,
     Member,
     OneIdeal(OneIdeal),
@@ -20,14 +20,14 @@ pub(crate) enum Ask {
 
 /// The questions on one ideal.
 #[derive(Clone, Copy)]
-pub(crate) enum OneIdeal {
+pub enum OneIdeal {
     Basis,
     Split,
 }
 
 /// The questions on two ideals.
 #[derive(Clone, Copy)]
-pub(crate) enum TwoIdeals {
+pub enum TwoIdeals {
     Same,
     Sum,
     Product,
@@ -37,14 +37,14 @@ pub(crate) enum TwoIdeals {
 
 /// The questions on a Frobenius power or root.
 #[derive(Clone, Copy)]
-pub(crate) enum Frobenius {
+pub enum Frobenius {
     Power,
     Root,
 }
 
 /// The questions on a test ideal.
 #[derive(Clone, Copy)]
-pub(crate) enum TestIdeal {
+pub enum TestIdeal {
     Test,
     Left,
     IsJump,

@@ -62,9 +62,9 @@ pub enum ScriptFault {
 
 /// The first fault of a line. The column is that of a byte, from 0.
 #[derive(Clone, Copy)]
-pub(crate) struct LineFault {
-    pub(crate) kind: FaultKind,
-    pub(crate) column: usize,
+pub struct LineFault {
+    pub kind: FaultKind,
+    pub column: usize,
 }
 
 /// Why a line was not read.

@@ -92,8 +92,10 @@ impl AskedList {
 
 /// The second name of `threshold`.
 #[derive(Clone, Copy)]
-enum Target {
+pub enum Target {
+    /// The place of an ideal in the list of values.
     Ideal(u32),
+    /// The place of a point there.
     Point(u32),
 }
 

@@ -23,7 +23,7 @@ const MAX_BUDGET: u64 = 10000000;
 
 /// The words that begin statements.
 #[derive(Clone, Copy)]
-enum Keyword {
+pub enum Keyword {
     Ring,
     Order,
     Budget,

@@ -27,7 +27,7 @@ pub enum Value {
 
 /// The kinds of values, as places tell them apart.
 #[derive(Clone, Copy)]
-pub(crate) enum Kind {
+pub enum Kind {
     Constant,
     Nonconstant,
     Ideal,

@@ -1,0 +1,571 @@
+-- What was read before a fault can go on: how far a line was read, and expressions.
+use Rattle.std.proofs.Common.{◌≡◌, ℕ, zero, suc, ◌%◌, ◌≤◌, Bool, true, false, cond, eqb, ltb, List, [], ◌∷◌, ◌++◌, length, map, Option, Some, None, Result, Ok, Err, refl, sym, ap, ◌∙◌, subst, arith, append_assoc, inl, inr, ◌⊎◌}
+use Rattle.std.specs.FinMap.{empty}
+use Rattle.std.specs.Option.{option_map, option_map_or}
+use Rattle.std.proofs.lemmas.Bool.{eqb-true, leb-false, ltb-false}
+use Rattle.std.proofs.lemmas.List.{append-nil, append_cancel_left, length-append, map-append}
+use Rattle.std.proofs.lemmas.Option.{same_Some}
+use Rattle.fj_coeff.specs.Field.{Field, IsField}
+use Rattle.fj_theory.specs.Exponents.{origin}
+use Rattle.fj_theory.specs.PointIdeal.{variable_exponents}
+use Rattle.fj_theory.specs.Polynomial.{Polynomial, IsPolynomial, negation, power, product, sum, term}
+use Rattle.fj_theory.proofs.Polynomial.{IsPolynomial-sum}
+use Rattle.fj_theory.proofs.Product.{IsPolynomial-product}
+use Rattle.fj_theory.proofs.PolynomialRing.{IsPolynomial-negation, IsPolynomial-power, power_first, power_zero, product_empty, product_one, sum_empty}
+use Rattle.fj_text.specs.declared.scope.Meaning.{Meaning}
+use Rattle.fj_text.specs.declared.scope.Meaning.TheVariants as meanings
+use Rattle.fj_text.specs.Expression as text
+use Rattle.fj_text.specs.Grammar as grammar
+use Rattle.fj_text.specs.Grammar.{IsAtom, IsExpression, IsFactor, IsTerm, IsWithinLimits}
+use Rattle.fj_text.specs.State.{State, after, after_sign, blame, end_of, is_the_sign, next, unexpected}
+use Rattle.fj_text.specs.Token.{Token, Word, Number, Sign, BadByte, Placed, caret, closing, minus, opening, plus, star}
+use Rattle.fj_text.proofs.Grammars.{IsPolynomial-factor, power-small, within-small}
+use Rattle.fj_script.specs.declared.fault.FaultKind.{FaultKind}
+use Rattle.fj_script.specs.declared.fault.FaultKind.TheVariants as kinds
+use Rattle.fj_script.specs.declared.fault.LineFault.{LineFault}
+use Rattle.fj_script.specs.LineFault.{◌>>=◌, fault_of, kind_of}
+use Rattle.fj_grammar.proofs.FineValues.{IsFine, fine_constant, fine_empty, fine_negation, fine_one, fine_variable, negation_empty, zero_is_empty}
+
+abbrev pub toks : List Placed → List Token
+toks ts = map (λ (t : Placed). t.token) ts
+
+abbrev pub StandsAt : ℕ → List Placed → ℕ → Type 0
+StandsAt c [] e = c ≡ e
+StandsAt c (t ∷ ts) e = c ≡ t.start
+
+pub end_last : (ts : List Placed) (t : Placed) (e : ℕ) → end_of (ts ++ t ∷ []) e ≡ t.end
+end_last [] t e = refl
+end_last (u ∷ us) t e = end_last us t u.end
+
+pub front_same : (ts us : List Token) (a b : Token) → ts ++ a ∷ [] ≡ us ++ b ∷ [] → ts ≡ us
+front_same [] [] a b e = refl
+front_same [] (u ∷ us) a b e = let long = ap length e in absurd (omega (arith, long, length-append us (b ∷ [])))
+front_same (t ∷ ts) [] a b e = let long = ap length e in absurd (omega (arith, long, length-append ts (a ∷ [])))
+front_same (t ∷ ts) (u ∷ us) a b e = let rest : ts ++ a ∷ [] ≡ us ++ b ∷ [] = cc in let first : t ≡ u = cc in let same = front_same ts us a b rest in cc
+
+pub last_same : (ts us : List Token) (a b : Token) → ts ++ a ∷ [] ≡ us ++ b ∷ [] → a ≡ b
+last_same ts us a b e = let same = append_cancel_left us (a ∷ []) (b ∷ []) (sym (ap (λ vs. vs ++ a ∷ []) (front_same ts us a b e)) ∙ e) in cc
+
+-- A token that isn't a bad byte.
+abbrev pub IsSound : Token → Type 0
+IsSound (Word w) = Unit {0}
+IsSound (Number n) = Unit {0}
+IsSound (Sign b) = Unit {0}
+IsSound BadByte = ⊥
+
+-- At a bad byte no other kind stands.
+abbrev pub Blames : FaultKind → List Placed → Type 0
+Blames k [] = Unit {0}
+Blames k (t ∷ ts) = t.token ≡ BadByte → k ≡ kinds.Byte
+
+sound_blames : (k : FaultKind) (t : Placed) (ts : List Placed) → IsSound t.token → Blames k (t ∷ ts)
+sound_blames k t ts sound e = absurd (subst IsSound e sound)
+
+blame_is : (t : Token) → t ≡ BadByte → kind_of (blame t) ≡ kinds.Byte
+blame_is t e = ap (λ u. kind_of (blame u)) e
+
+pub unexpected_blames : (t : State) → Blames (fault_of (unexpected t)).kind t.left
+unfolding unexpected
+unexpected_blames t = by t.left
+  where
+    by : (us : List Placed) → Blames (fault_of (unexpected (record { left = us; start = t.start; end = t.end }))).kind us
+    by [] = tt
+    by (u ∷ us) = λ e. blame_is u.token e
+
+-- What may be said of tokens: that they can go on, that they can go on with a token, and that there are too many at the last one.
+pub record Sayings : Type 1 where
+  pub Goes : List Token → Type 0
+  pub Next : List Token → Token → Type 0
+  pub Many : List Token → Type 0
+
+-- A line was read from the state s0 on.
+module _ (s0 : State) (V : Sayings) where
+  -- These tokens were taken so far, and before the last one they could go on.
+  pub record Took (ts : List Token) (t : State) : Type 0 where
+    pub init : List Placed
+    pub last : Placed
+    pub all : s0.left ≡ init ++ last ∷ t.left
+    pub tokens : ts ≡ toks init ++ last.token ∷ []
+    pub start : t.start ≡ last.start
+    pub end : t.end ≡ last.end
+    pub goes_on : V.Goes (toks init)
+
+  -- The same, and the last one is no bad byte.
+  pub record SoFar (ts : List Token) (t : State) : Type 0 where
+    pub took : Took ts t
+    pub sound : IsSound took.last.token
+
+  pub sound : (ts : List Token) (tok : Token) {t : State} → IsSound tok → Took (ts ++ tok ∷ []) t → SoFar (ts ++ tok ∷ []) t
+  sound ts tok is H = record { took = H; sound = subst IsSound (last_same ts (toks H.init) tok H.last.token H.tokens) is }
+
+  -- Tokens can go on with a number, or with a word.
+  abbrev pub Numbers : List Token → Type 0
+  Numbers ts = (n : ℕ) × (V.Goes (ts ++ Number n ∷ []) ⊎ V.Next ts (Number n))
+
+  abbrev pub Words : List Token → Type 0
+  Words ts = (w : List ℕ) × (V.Goes (ts ++ Word w ∷ []) ⊎ V.Next ts (Word w))
+
+  -- What is said of the tokens before a fault of this kind, and of those from its place on.
+  abbrev pub Fits : FaultKind → List Token → List Token → Type 0
+  Fits kinds.Prime ts us = Numbers ts
+  Fits kinds.Wide ts us = Numbers ts
+  Fits kinds.Range ts us = Numbers ts
+  Fits kinds.Vars ts us = Words ts
+  Fits kinds.Taken ts us = Words ts
+  Fits kinds.Unknown ts us = Words ts
+  Fits kinds.Kind ts us = Words ts
+  Fits kinds.Constant ts us = Words ts
+  Fits kinds.Many ts us = (t : Token) × (vs : List Token) × (us ≡ t ∷ vs) × V.Many (ts ++ t ∷ [])
+  Fits kinds.Long ts us = Unit {0}
+  Fits kinds.Byte ts us = Unit {0}
+  Fits kinds.Syntax ts us = Unit {0}
+  Fits kinds.NoRing ts us = Unit {0}
+  Fits kinds.Large ts us = Unit {0}
+  Fits kinds.Arity ts us = Unit {0}
+
+  -- A fault stands at its column, and the tokens before it can go on.
+  pub record Stuck (f : LineFault) : Type 0 where
+    pub before : List Placed
+    pub rest : List Placed
+    pub all : s0.left ≡ before ++ rest
+    pub at : StandsAt f.column rest (end_of before s0.end)
+    pub goes_on : V.Goes (toks before)
+    pub fits : Fits f.kind (toks before) (toks rest)
+    pub blames : Blames f.kind rest
+
+  blame_fits : (tok : Token) (ts us : List Token) → Fits (kind_of (blame tok)) ts us
+  blame_fits (Word w) ts us = tt
+  blame_fits (Number n) ts us = tt
+  blame_fits (Sign b) ts us = tt
+  blame_fits BadByte ts us = tt
+
+  -- What was read behind these tokens, or such a fault.
+  pub data Reading {E A : Type 0} (fault : E → LineFault) (Q : A → List Token → Type 0) (ts : List Token) : Result (A × State) E → Type 0 where
+    read : {x : A} {u : State} (us : List Token) → Q x us → SoFar (ts ++ us) u → Reading fault Q ts (Ok (x, u))
+    stuck : {e : E} → Stuck (fault e) → Reading fault Q ts (Err e)
+
+  -- a fault at the token that was taken last
+  pub late : {k : FaultKind} {ts : List Token} {t : State} (H : SoFar ts t) → Fits k (toks H.took.init) (H.took.last.token ∷ toks t.left) → Stuck (record { kind = k; column = t.start })
+  late {k} {ts} {t} H fits = record { before = H.took.init; rest = H.took.last ∷ t.left; all = H.took.all; at = H.took.start; goes_on = H.took.goes_on; fits = fits; blames = sound_blames k H.took.last t.left H.sound }
+
+  -- the same, where it may not stand
+  pub wrong_token : (ts : List Token) (tok : Token) {t : State} → Took (ts ++ tok ∷ []) t → Stuck (record { kind = kind_of (blame tok); column = t.start })
+  wrong_token ts tok {t} H = record {
+    before = H.init;
+    rest = H.last ∷ t.left;
+    all = H.all;
+    at = H.start;
+    goes_on = H.goes_on;
+    fits = blame_fits tok (toks H.init) (H.last.token ∷ toks t.left);
+    blames = λ e. blame_is tok (last_same ts (toks H.init) tok H.last.token H.tokens ∙ e);
+  }
+
+  -- before a number, and before a word
+  pub numbers_at : {ws us : List Token} {n : ℕ} {u : State} (H : SoFar (ws ++ us) u) → us ≡ Number n ∷ [] → Numbers ws → Numbers (toks H.took.init)
+  numbers_at {ws} {us} {n} H e k = subst Numbers (front_same ws (toks H.took.init) (Number n) H.took.last.token (ap (λ vs. ws ++ vs) (sym e) ∙ H.took.tokens)) k
+
+  pub words_at : {ws us : List Token} {w : List ℕ} {u : State} (H : SoFar (ws ++ us) u) → us ≡ Word w ∷ [] → Words ws → Words (toks H.took.init)
+  words_at {ws} {us} {w} H e k = subst Words (front_same ws (toks H.took.init) (Word w) H.took.last.token (ap (λ vs. ws ++ vs) (sym e) ∙ H.took.tokens)) k
+
+  pub too_many : {ts : List Token} {t : State} → SoFar ts t → V.Many ts → Stuck (record { kind = kinds.Many; column = t.start })
+  too_many {ts} {t} H many = late H (H.took.last.token, toks t.left, refl, subst V.Many H.took.tokens many)
+
+  pub tokens_all : {ts : List Token} {t : State} (H : Took ts t) → ts ≡ toks (H.init ++ H.last ∷ [])
+  tokens_all H = H.tokens ∙ sym (map-append (λ (t : Placed). t.token) H.init (H.last ∷ []))
+
+  pub all_left : {ts : List Token} {t : State} (H : Took ts t) → s0.left ≡ (H.init ++ H.last ∷ []) ++ t.left
+  all_left {ts} {t} H = H.all ∙ sym (append_assoc H.init (H.last ∷ []) t.left)
+
+  pub unexpected_fits : (ts : List Token) (t : State) → Fits (fault_of (unexpected t)).kind ts (toks t.left)
+  unfolding unexpected
+  unexpected_fits ts t = by t.left
+    where
+      by : (us : List Placed) → Fits (fault_of (unexpected (record { left = us; start = t.start; end = t.end }))).kind ts (toks us)
+      by [] = tt
+      by (u ∷ us) = blame_fits u.token ts (toks (u ∷ us))
+
+  pub wrong_next : {ts : List Token} {t : State} → SoFar ts t → V.Goes ts → Stuck (fault_of (unexpected t))
+  unfolding unexpected
+  wrong_next {ts} {t} H v = record {
+    before = H.took.init ++ H.took.last ∷ [];
+    rest = t.left;
+    all = all_left H.took;
+    at = by t.left;
+    goes_on = subst V.Goes (tokens_all H.took) v;
+    fits = unexpected_fits (toks (H.took.init ++ H.took.last ∷ [])) t;
+    blames = unexpected_blames t;
+  }
+    where
+      by : (us : List Placed) → StandsAt (unexpected (record { left = us; start = t.start; end = t.end })).place us (end_of (H.took.init ++ H.took.last ∷ []) s0.end)
+      by [] = H.took.end ∙ sym (end_last H.took.init H.took.last s0.end)
+      by (u ∷ us) = refl
+
+  pub taken : {ts : List Token} {t : State} → SoFar ts t → V.Goes ts → (p : Placed) (rest : List Placed) → t.left ≡ p ∷ rest → Took (ts ++ p.token ∷ []) (after p rest)
+  taken H v p rest e = record {
+    init = H.took.init ++ H.took.last ∷ [];
+    last = p;
+    all = all_left H.took ∙ ap (λ us. (H.took.init ++ H.took.last ∷ []) ++ us) e;
+    tokens = ap (λ us. us ++ p.token ∷ []) (tokens_all H.took);
+    start = refl;
+    end = refl;
+    goes_on = subst V.Goes (tokens_all H.took) v;
+  }
+
+  pub regrouped : (ts us vs : List Token) {t : State} → SoFar ((ts ++ us) ++ vs) t → SoFar (ts ++ (us ++ vs)) t
+  regrouped ts us vs {t} H = subst (λ ws. SoFar ws t) (append_assoc ts us vs) H
+
+  pub ungrouped : (ts us vs : List Token) {t : State} → SoFar (ts ++ (us ++ vs)) t → SoFar ((ts ++ us) ++ vs) t
+  ungrouped ts us vs {t} H = subst (λ ws. SoFar ws t) (sym (append_assoc ts us vs)) H
+
+  pub sign_taken : {ws : List Token} (b : ℕ) (t u : State) → SoFar ws t → V.Goes ws → after_sign b t ≡ Some u → SoFar (ws ++ Sign b ∷ []) u
+  unfolding after_sign next
+  sign_taken {ws} b t u H v is = by t.left refl is
+    where
+      test : (p : Placed) (rest : List Placed) (tok : Token) → Took (ws ++ tok ∷ []) (after p rest) → cond (is_the_sign b tok) (Some (after p rest)) None ≡ Some u → SoFar (ws ++ Sign b ∷ []) u
+      test p rest (Word w) K e = absurd cc
+      test p rest (Number n) K e = absurd cc
+      test p rest BadByte K e = absurd cc
+      test p rest (Sign s) K e = at (eqb s b) refl e
+        where
+          at : (c : Bool) → eqb s b ≡ c → cond c (Some (after p rest)) None ≡ Some u → SoFar (ws ++ Sign b ∷ []) u
+          at true same h = subst (SoFar (ws ++ Sign b ∷ [])) (same_Some _ _ h) (subst (λ n. SoFar (ws ++ Sign n ∷ []) (after p rest)) (eqb-true s b same) (sound ws (Sign s) tt K))
+          at false same h = absurd cc
+
+      by : (us : List Placed) → t.left ≡ us → after_sign b (record { left = us; start = t.start; end = t.end }) ≡ Some u → SoFar (ws ++ Sign b ∷ []) u
+      by [] e h = absurd cc
+      by (p ∷ rest) e h = test p rest p.token (taken H v p rest e) h
+
+  module _ {E : Type 0} (fault : E → LineFault) where
+    -- what was read behind more tokens
+    pub behind : {A : Type 0} {Q R : A → List Token → Type 0} (ts us : List Token) (r : Result (A × State) E) → Reading fault Q (ts ++ us) r → ((x : A) (vs : List Token) → Q x vs → R x (us ++ vs)) → Reading fault R ts r
+    behind ts us r (read vs h H) f = read (us ++ vs) (f _ vs h) (regrouped ts us vs H)
+    behind ts us r (stuck H) f = stuck H
+
+    pub then_reading : {A B : Type 0} {Q : A → List Token → Type 0} {R : B → List Token → Type 0} {ts : List Token} {r : Result (A × State) E} (f : A × State → Result (B × State) E)
+        → Reading fault Q ts r → ((x : A) (us : List Token) (u : State) → Q x us → SoFar (ts ++ us) u → Reading fault R ts (f (x, u))) → Reading fault R ts (r >>= f)
+    then_reading f (read {x = x} {u = u} us h H) k = k x us u h H
+    then_reading f (stuck H) k = stuck H
+
+    pub reading_if : {A : Type 0} {Q : A → List Token → Type 0} {ts : List Token} (b : Bool) (x y : Result (A × State) E) → (b ≡ true → Reading fault Q ts x) → (b ≡ false → Reading fault Q ts y) → Reading fault Q ts (cond b x y)
+    reading_if true x y p q = p refl
+    reading_if false x y p q = q refl
+
+    -- the next token
+    pub reading_next : {A : Type 0} {Q : A → List Token → Type 0} {ts ws : List Token} {t : State} (f : Token × State → Result (A × State) E) (wrong : E) → fault wrong ≡ fault_of (unexpected t) → SoFar ws t → V.Goes ws
+        → ((tok : Token) (u : State) → Took (ws ++ tok ∷ []) u → Reading fault Q ts (f (tok, u))) → Reading fault Q ts (option_map_or f (next t) (Err wrong))
+    unfolding next
+    reading_next {A} {Q} {ts} {ws} {t} f wrong is H v each = by t.left refl
+      where
+        by : (us : List Placed) → t.left ≡ us → Reading fault Q ts (option_map_or f (next (record { left = us; start = t.start; end = t.end })) (Err wrong))
+        by [] e = stuck (subst Stuck (sym is) (wrong_next H v))
+        by (p ∷ rest) e = each p.token (after p rest) (taken H v p rest e)
+
+    -- a sign, where it is next
+    pub reading_sign : {A : Type 0} {Q : A → List Token → Type 0} {ts ws : List Token} {t : State} (b : ℕ) (f : State → Result (A × State) E) (d : Result (A × State) E) → SoFar ws t → V.Goes ws
+        → ((u : State) → SoFar (ws ++ Sign b ∷ []) u → Reading fault Q ts (f u)) → Reading fault Q ts d → Reading fault Q ts (option_map_or f (after_sign b t) d)
+    reading_sign {A} {Q} {ts} {ws} {t} b f d H v some none = by (after_sign b t) refl
+      where
+        by : (o : Option State) → after_sign b t ≡ o → Reading fault Q ts (option_map_or f o d)
+        by None e = none
+        by (Some u) e = some u (sign_taken b t u H v e)
+
+  -- ---- expressions
+
+  -- Again and again a turn, and each time what was read is such a value.
+  repeat_reading : {A : Type 0} (turn : A → State → Option (text.Answer A)) (W : A → List Token → Type 0) (ts : List Token)
+      → ((x : A) (us : List Token) (t : State) (r : text.Answer A) → W x us → SoFar (ts ++ us) t → turn x t ≡ Some r → Reading fault_of W ts r)
+      → (n : ℕ) (x : A) (us : List Token) (t : State) → W x us → SoFar (ts ++ us) t → Reading fault_of W ts (text.repeat turn n x t)
+  unfolding text.repeat
+  repeat_reading turn W ts each zero x us t w H = read us w H
+  repeat_reading {A} turn W ts each (suc n) x us t w H = by (turn x t) refl (repeat_reading turn W ts each n)
+    where
+      by : (o : Option (text.Answer A)) → turn x t ≡ o → ((x : A) (us : List Token) (t : State) → W x us → SoFar (ts ++ us) t → Reading fault_of W ts (text.repeat turn n x t))
+          → Reading fault_of W ts (option_map_or (λ a. a >>= λ r. text.repeat turn n r.0 r.1) o (Ok (x, t)))
+      by None e rec = read us w H
+      by (Some r) e rec = then_reading fault_of (λ r. text.repeat turn n r.0 r.1) (each x us t r w H e) (λ y vs u k K. rec y vs u k K)
+
+  formed_reading : {W : Polynomial → List Token → Type 0} (ts us : List Token) (o : Option Polynomial) (u : State) → SoFar (ts ++ us) u → ((f : Polynomial) → o ≡ Some f → W f us) → Reading fault_of W ts (text.formed o u)
+  formed_reading ts us None u H w = stuck (late H tt)
+  formed_reading ts us (Some f) u H w = read us (w f refl) H
+
+module _ {F : Field} (L : IsField F) (meaning : List ℕ → Meaning) where
+  abbrev pub Atom : ℕ → Polynomial → List Token → Type 0
+  Atom d f us = IsAtom F meaning d us f × IsFine F f
+
+  abbrev pub Factor : ℕ → Polynomial → List Token → Type 0
+  Factor d f us = IsFactor F meaning d us f × IsFine F f
+
+  abbrev pub Term : ℕ → Polynomial → List Token → Type 0
+  Term d f us = IsTerm F meaning d us f × IsFine F f
+
+  abbrev pub Whole : ℕ → Polynomial → List Token → Type 0
+  Whole d f us = IsExpression F meaning d us f × IsFine F f
+
+  -- Tokens that go on to a factor zero or one, to a term zero, and to an expression.
+  abbrev GoesOnFactor : ℕ → List Token → Type 0
+  GoesOnFactor d us = (more : List Token) × (g : Polynomial) × IsFactor F meaning d (us ++ more) g × ((g ≡ empty) ⊎ (g ≡ term 1 origin))
+
+  abbrev GoesOnTerm : ℕ → List Token → Type 0
+  GoesOnTerm d us = (more : List Token) × IsTerm F meaning d (us ++ more) empty
+
+  abbrev pub GoesOn : ℕ → List Token → Type 0
+  GoesOn d us = (more : List Token) × (f : Polynomial) × Whole d f (us ++ more)
+
+  zero_factor : (d : ℕ) → IsFactor F meaning d (Number 0 ∷ []) empty
+  zero_factor d = subst (IsFactor F meaning d (Number 0 ∷ [])) (zero_is_empty L) (grammar.atom (grammar.number (omega arith)))
+
+  times_zero : {d : ℕ} {us : List Token} {f : Polynomial} → IsTerm F meaning d us f → IsPolynomial F f → IsTerm F meaning d (us ++ Sign star ∷ Number 0 ∷ []) empty
+  times_zero {d} {us} {f} t P =
+      let is_empty = product_empty L P in
+      subst (IsTerm F meaning d (us ++ Sign star ∷ Number 0 ∷ [])) is_empty (grammar.times t (zero_factor d) (subst IsWithinLimits (sym is_empty) (fine_empty L).within))
+
+  factor_default : (d : ℕ) → GoesOnFactor d []
+  factor_default d = (Number 0 ∷ [], empty, zero_factor d, inl refl)
+
+  term_of_factor : (d : ℕ) (us : List Token) → GoesOnFactor d us → GoesOnTerm d us
+  term_of_factor d us (more, g, h, small) =
+      (more ++ Sign star ∷ Number 0 ∷ [], subst (λ ts. IsTerm F meaning d ts empty) (append_assoc us more (Sign star ∷ Number 0 ∷ [])) (times_zero (grammar.factor h) (IsPolynomial-factor L meaning h)))
+
+  term_ends : (d : ℕ) (us : List Token) (f : Polynomial) → Term d f us → GoesOnTerm d us
+  term_ends d us f h = (Sign star ∷ Number 0 ∷ [], times_zero h.0 h.1.polynomial)
+
+  term_goes : (d : ℕ) (us vs : List Token) (f : Polynomial) → Term d f us → GoesOnFactor d vs → GoesOnTerm d (us ++ Sign star ∷ vs)
+  term_goes d us vs f h (more, g, k, small) =
+      let value : IsFine F (product F f g) = by small in
+      let whole = times_zero (grammar.times h.0 k value.within) value.polynomial in
+      (more ++ Sign star ∷ Number 0 ∷ [], subst (λ ts. IsTerm F meaning d ts empty) tokens whole)
+    where
+      by : (g ≡ empty) ⊎ (g ≡ term 1 origin) → IsFine F (product F f g)
+      by (inl e) = subst (IsFine F) (sym (ap (product F f) e ∙ product_empty L h.1.polynomial)) (fine_empty L)
+      by (inr e) = subst (IsFine F) (sym (ap (product F f) e ∙ product_one L h.1.polynomial)) h.1
+
+      tokens : (us ++ Sign star ∷ (vs ++ more)) ++ Sign star ∷ Number 0 ∷ [] ≡ (us ++ Sign star ∷ vs) ++ (more ++ Sign star ∷ Number 0 ∷ [])
+      tokens = ap (λ ws. ws ++ Sign star ∷ Number 0 ∷ []) (sym (append_assoc us (Sign star ∷ vs) more)) ∙ append_assoc (us ++ Sign star ∷ vs) more (Sign star ∷ Number 0 ∷ [])
+
+  expression_of_term : (d : ℕ) (us : List Token) → GoesOnTerm d us → GoesOn d us
+  expression_of_term d us (more, h) = (more, empty, (grammar.first h, fine_empty L))
+
+  expression_of_minus : (d : ℕ) (us : List Token) → GoesOnTerm d us → GoesOn d (Sign minus ∷ us)
+  expression_of_minus d us (more, h) = (more, empty, (subst (IsExpression F meaning d (Sign minus ∷ us ++ more)) (negation_empty L) (grammar.negative h), fine_empty L))
+
+  expression_ends : (d : ℕ) (us : List Token) (f : Polynomial) → Whole d f us → GoesOn d us
+  expression_ends d us f h = ([], f, subst (Whole d f) (sym (append-nil us)) h)
+
+  expression_plus : (d : ℕ) (us vs : List Token) (f : Polynomial) → Whole d f us → GoesOnTerm d vs → GoesOn d (us ++ Sign plus ∷ vs)
+  expression_plus d us vs f h (more, k) =
+      let same = sum_empty L h.1.polynomial in
+      let whole = grammar.add h.0 k (subst IsWithinLimits (sym same) h.1.within) in
+      (more, f, (subst (λ ts. IsExpression F meaning d ts f) (sym (append_assoc us (Sign plus ∷ vs) more)) (subst (IsExpression F meaning d (us ++ Sign plus ∷ (vs ++ more))) same whole), h.1))
+
+  expression_minus : (d : ℕ) (us vs : List Token) (f : Polynomial) → Whole d f us → GoesOnTerm d vs → GoesOn d (us ++ Sign minus ∷ vs)
+  expression_minus d us vs f h (more, k) =
+      let same = ap (sum F f) (negation_empty L) ∙ sum_empty L h.1.polynomial in
+      let whole = grammar.less h.0 k (subst IsWithinLimits (sym same) h.1.within) in
+      (more, f, (subst (λ ts. IsExpression F meaning d ts f) (sym (append_assoc us (Sign minus ∷ vs) more)) (subst (IsExpression F meaning d (us ++ Sign minus ∷ (vs ++ more))) same whole), h.1))
+
+  power_goes : (d : ℕ) (us : List Token) (f : Polynomial) → Atom d f us → IsFactor F meaning d (us ++ Sign caret ∷ Number 0 ∷ []) (term 1 origin)
+  power_goes d us f h = subst (IsFactor F meaning d (us ++ Sign caret ∷ Number 0 ∷ [])) (power_zero L h.1.polynomial) (grammar.raised h.0 (omega arith) (λ i two up. absurd (omega arith)))
+
+  atom_ends : (d : ℕ) (us : List Token) (f : Polynomial) → Atom d f us → GoesOnFactor d us
+  atom_ends d us f h = (Sign caret ∷ Number 0 ∷ [], term 1 origin, power_goes d us f h, inr refl)
+
+  atom_raised : (d : ℕ) (us : List Token) (f : Polynomial) → Atom d f us → GoesOnFactor d (us ++ Sign caret ∷ [])
+  atom_raised d us f h = (Number 0 ∷ [], term 1 origin, subst (λ ts. IsFactor F meaning d ts (term 1 origin)) (sym (append_assoc us (Sign caret ∷ []) (Number 0 ∷ []))) (power_goes d us f h), inr refl)
+
+  inside_goes : (d : ℕ) (us : List Token) → GoesOn d us → GoesOnFactor (suc d) (Sign opening ∷ us)
+  inside_goes d us (more, f, h) =
+      let all = power_goes (suc d) (Sign opening ∷ (us ++ more) ++ Sign closing ∷ []) f (grammar.parentheses h.0, h.1) in
+      (more ++ Sign closing ∷ Sign caret ∷ Number 0 ∷ [], term 1 origin, subst (λ ts. IsFactor F meaning (suc d) ts (term 1 origin)) tokens all, inr refl)
+    where
+      tokens : (Sign opening ∷ (us ++ more) ++ Sign closing ∷ []) ++ Sign caret ∷ Number 0 ∷ [] ≡ (Sign opening ∷ us) ++ (more ++ Sign closing ∷ Sign caret ∷ Number 0 ∷ [])
+      tokens = ap (λ ws. Sign opening ∷ ws) (append_assoc (us ++ more) (Sign closing ∷ []) (Sign caret ∷ Number 0 ∷ []) ∙ append_assoc us more (Sign closing ∷ Sign caret ∷ Number 0 ∷ []))
+
+  fine_power : (f : Polynomial) → IsFine F f → (k : ℕ) → ((i : ℕ) → 2 ≤ i → i ≤ k → IsWithinLimits (power F f i)) → IsFine F (power F f k)
+  fine_power f h zero limits = subst (IsFine F) (sym (power_zero L h.polynomial)) (fine_one L)
+  fine_power f h (suc zero) limits = subst (IsFine F) (sym (power_first L h.polynomial)) h
+  fine_power f h (suc (suc k)) limits = record { polynomial = IsPolynomial-power L h.polynomial (suc (suc k)); within = limits (suc (suc k)) (omega arith) (omega arith) }
+
+  -- ---- what is read of an expression, where its beginnings can go on
+
+  module _ (s0 : State) (V : Sayings) (name : List ℕ) (place : ℕ) (named : meaning name ≡ meanings.Variable place) where
+    -- What is read behind an opening parenthesis.
+    abbrev Inside : ℕ → Type 0
+    Inside d = (ts : List Token) (u : State) → SoFar s0 V ts u → ((us : List Token) → GoesOnFactor d (Sign opening ∷ us) → V.Goes (ts ++ us))
+        → Reading s0 V fault_of (λ f us. Atom d f (Sign opening ∷ us)) ts (text.parenthesised F meaning d u)
+
+    at_once : (ts : List Token) → V.Goes (ts ++ []) → V.Goes ts
+    at_once ts v = subst V.Goes (append-nil ts) v
+
+    behind_one : (ts us : List Token) (tok : Token) → V.Goes (ts ++ tok ∷ us) → V.Goes ((ts ++ tok ∷ []) ++ us)
+    behind_one ts us tok v = subst V.Goes (sym (append_assoc ts (tok ∷ []) us)) v
+
+    behind_more : (ts us vs : List Token) (tok : Token) → V.Goes (ts ++ (us ++ tok ∷ vs)) → V.Goes ((ts ++ (us ++ tok ∷ [])) ++ vs)
+    behind_more ts us vs tok v = subst V.Goes (sym (append_assoc ts (us ++ tok ∷ []) vs ∙ ap (λ ws. ts ++ ws) (append_assoc us (tok ∷ []) vs))) v
+
+    module _ (d : ℕ) (I : Inside d) where
+      atom_reading : (ts : List Token) (t : State) → SoFar s0 V ts t → ((us : List Token) → GoesOnFactor d us → V.Goes (ts ++ us))
+          → Reading s0 V fault_of (Atom d) ts (text.atom F meaning (text.parenthesised F meaning d) t)
+      unfolding text.atom text.atom_of text.constant text.variable
+      atom_reading ts t H K = reading_next s0 V fault_of (λ t. text.atom_of F meaning (text.parenthesised F meaning d) t.0 t.1) (unexpected t) refl H (at_once ts (K [] (factor_default d))) each
+        where
+          a_number : Numbers s0 V ts
+          a_number = (0, inl (K (Number 0 ∷ []) (atom_ends d (Number 0 ∷ []) (term (0 % F.characteristic) origin) (grammar.number (omega arith), fine_constant L 0))))
+
+          a_word : Words s0 V ts
+          a_word = (name, inl (K (Word name ∷ []) (atom_ends d (Word name ∷ []) (term 1 (variable_exponents place)) (grammar.word named, fine_variable L place))))
+
+          known : (w : List ℕ) (u : State) → SoFar s0 V (ts ++ Word w ∷ []) u → (m : Meaning) → meaning w ≡ m → Reading s0 V fault_of (Atom d) ts (text.variable m u)
+          known w u Hu (meanings.Variable i) e = read (Word w ∷ []) (grammar.word e, fine_variable L i) Hu
+          known w u Hu meanings.Unknown e = stuck (late s0 V Hu (words_at s0 V Hu refl a_word))
+          known w u Hu meanings.OtherKind e = stuck (late s0 V Hu (words_at s0 V Hu refl a_word))
+
+          each : (tok : Token) (u : State) → Took s0 V (ts ++ tok ∷ []) u → Reading s0 V fault_of (Atom d) ts (text.atom_of F meaning (text.parenthesised F meaning d) tok u)
+          each (Number n) u Hu =
+              let Hn = sound s0 V ts (Number n) tt Hu in
+              reading_if s0 V fault_of (text.is_wide n) _ _ (λ _. stuck (late s0 V Hn (numbers_at s0 V Hn refl a_number))) (λ e. read (Number n ∷ []) (grammar.number (leb-false _ _ e), fine_constant L n) Hn)
+          each (Word w) u Hu = known w u (sound s0 V ts (Word w) tt Hu) (meaning w) refl
+          each BadByte u Hu = stuck (wrong_token s0 V ts BadByte Hu)
+          each (Sign s) u Hu =
+              reading_if s0 V fault_of (eqb s opening) _ _
+              (λ e. let Ho = subst (λ n. SoFar s0 V (ts ++ Sign n ∷ []) u) (eqb-true s opening e) (sound s0 V ts (Sign s) tt Hu) in
+              behind s0 V fault_of ts (Sign opening ∷ []) _ (I (ts ++ Sign opening ∷ []) u Ho (λ us g. behind_one ts us (Sign opening) (K (Sign opening ∷ us) g))) (λ f us h. h))
+              (λ e. stuck (wrong_token s0 V ts (Sign s) Hu))
+
+      factor_reading : (ts : List Token) (t : State) → SoFar s0 V ts t → ((us : List Token) → GoesOnFactor d us → V.Goes (ts ++ us))
+          → Reading s0 V fault_of (Factor d) ts (text.factor F meaning (text.parenthesised F meaning d) t)
+      unfolding text.factor text.exponent_of
+      factor_reading ts t H K =
+          then_reading s0 V fault_of _ (atom_reading ts t H K)
+          (λ f us u h Hu. reading_sign s0 V fault_of caret _ _ Hu (K us (atom_ends d us f h)) (λ v Hv. raised f us h v (regrouped s0 V ts us (Sign caret ∷ []) Hv)) (read us (grammar.atom h.0, h.1) Hu))
+        where
+          Exponent : List Token → ℕ → List Token → Type 0
+          Exponent us k vs = (vs ≡ us ++ Sign caret ∷ Number k ∷ []) × (k ≤ 1000)
+
+          a_number : (f : Polynomial) (us : List Token) → Atom d f us → Numbers s0 V (ts ++ (us ++ Sign caret ∷ []))
+          a_number f us h =
+              let goes = K (us ++ Sign caret ∷ Number 0 ∷ []) ([], term 1 origin, subst (λ ws. IsFactor F meaning d ws (term 1 origin)) (sym (append-nil (us ++ Sign caret ∷ Number 0 ∷ []))) (power_goes d us f h), inr refl) in
+              (0, inl (subst V.Goes (ap (λ ws. ts ++ ws) (sym (append_assoc us (Sign caret ∷ []) (Number 0 ∷ []))) ∙ sym (append_assoc ts (us ++ Sign caret ∷ []) (Number 0 ∷ []))) goes))
+
+          exponent : (f : Polynomial) (us : List Token) → Atom d f us → (tok : Token) (w : State) → Took s0 V ((ts ++ (us ++ Sign caret ∷ [])) ++ tok ∷ []) w → Reading s0 V fault_of (Exponent us) ts (text.exponent_of tok w)
+          exponent f us h (Word x) w Hw = stuck (wrong_token s0 V (ts ++ (us ++ Sign caret ∷ [])) (Word x) Hw)
+          exponent f us h (Sign x) w Hw = stuck (wrong_token s0 V (ts ++ (us ++ Sign caret ∷ [])) (Sign x) Hw)
+          exponent f us h BadByte w Hw = stuck (wrong_token s0 V (ts ++ (us ++ Sign caret ∷ [])) BadByte Hw)
+          exponent f us h (Number k) w Ho =
+              let Hw = sound s0 V (ts ++ (us ++ Sign caret ∷ [])) (Number k) tt Ho in
+              reading_if s0 V fault_of (text.is_wide k) _ _ (λ _. stuck (late s0 V Hw (numbers_at s0 V Hw refl (a_number f us h))))
+              (λ _. reading_if s0 V fault_of (ltb 1000 k) _ _ (λ _. stuck (late s0 V Hw tt))
+              (λ e. read (us ++ Sign caret ∷ Number k ∷ []) (refl, ltb-false _ _ e)
+              (subst (λ ws. SoFar s0 V ws w) (append_assoc ts (us ++ Sign caret ∷ []) (Number k ∷ []) ∙ ap (λ ws. ts ++ ws) (append_assoc us (Sign caret ∷ []) (Number k ∷ []))) Hw)))
+
+          raised : (f : Polynomial) (us : List Token) → Atom d f us → (v : State) → SoFar s0 V (ts ++ (us ++ Sign caret ∷ [])) v
+              → Reading s0 V fault_of (Factor d) ts (option_map_or (λ t. text.exponent_of t.0 t.1) (next v) (Err (unexpected v)) >>= λ k. text.formed (text.power_within F f k.0) k.1)
+          raised f us h v Hv =
+              then_reading s0 V fault_of (λ k. text.formed (text.power_within F f k.0) k.1)
+              (reading_next s0 V fault_of {Q = Exponent us} {ts = ts} (λ t. text.exponent_of t.0 t.1) (unexpected v) refl Hv (K (us ++ Sign caret ∷ []) (atom_raised d us f h)) (exponent f us h))
+              (λ k vs w q Hw. formed_reading s0 V ts vs (text.power_within F f k) w Hw
+              (λ g e. let p = power-small L h.1.polynomial k g e in
+              subst (λ ws. Factor d g ws) (sym q.0) (subst (λ y. Factor d y (us ++ Sign caret ∷ Number k ∷ [])) (sym p.0) (grammar.raised h.0 q.1 p.1, fine_power f h.1 k p.1))))
+
+      times_reading : (ts : List Token) → ((us : List Token) → GoesOnTerm d us → V.Goes (ts ++ us)) → (x : Polynomial) (us : List Token) (t : State) (r : text.Answer Polynomial) → Term d x us → SoFar s0 V (ts ++ us) t
+          → text.times_factor F meaning (text.parenthesised F meaning d) x t ≡ Some r → Reading s0 V fault_of (Term d) ts r
+      unfolding text.times_factor
+      times_reading ts K x us t r w H e = by (after_sign star t) refl e
+        where
+          turn : State → text.Answer Polynomial
+          turn v = text.factor F meaning (text.parenthesised F meaning d) v >>= λ g. text.formed (text.within (product F x g.0)) g.1
+
+          Behind : Polynomial → List Token → Type 0
+          Behind g ws = (vs : List Token) × (ws ≡ us ++ Sign star ∷ vs) × Factor d g vs
+
+          by : (o : Option State) → after_sign star t ≡ o → option_map turn o ≡ Some r → Reading s0 V fault_of (Term d) ts r
+          by None is h = absurd cc
+          by (Some v) is h =
+              let Hv = regrouped s0 V ts us (Sign star ∷ []) (sign_taken s0 V star t v H (K us (term_ends d us x w)) is) in
+              let factor = factor_reading (ts ++ (us ++ Sign star ∷ [])) v Hv (λ vs g. behind_more ts us vs (Sign star) (K (us ++ Sign star ∷ vs) (term_goes d us vs x w g))) in
+              let whole = behind s0 V fault_of {Q = Factor d} {R = Behind} ts (us ++ Sign star ∷ []) _ factor (λ g vs k. (vs, append_assoc us (Sign star ∷ []) vs, k)) in
+              subst (Reading s0 V fault_of (Term d) ts) (same_Some _ _ h)
+              (then_reading s0 V fault_of (λ g. text.formed (text.within (product F x g.0)) g.1) whole
+              (λ g ws z k Hz. formed_reading s0 V ts ws (text.within (product F x g)) z Hz
+              (λ y ok. let p = within-small (product F x g) y ok in
+              subst (Term d y) (sym k.1) (subst (λ a. Term d a (us ++ Sign star ∷ k.0)) p.0 (grammar.times w.0 k.2.0 p.1, record { polynomial = IsPolynomial-product L w.1.polynomial k.2.1.polynomial; within = p.1 })))))
+
+      term_reading : (ts : List Token) (t : State) → SoFar s0 V ts t → ((us : List Token) → GoesOnTerm d us → V.Goes (ts ++ us))
+          → Reading s0 V fault_of (Term d) ts (text.term_at F meaning (text.parenthesised F meaning d) t)
+      unfolding text.term_at
+      term_reading ts t H K =
+          then_reading s0 V fault_of _ (factor_reading ts t H (λ us g. K us (term_of_factor d us g)))
+          (λ f us u h Hu. repeat_reading s0 V (text.times_factor F meaning (text.parenthesised F meaning d)) (Term d) ts (times_reading ts K) (length u.left) f us u (grammar.factor h.0, h.1) Hu)
+
+      first_reading : (ts : List Token) (t : State) → SoFar s0 V ts t → ((us : List Token) → GoesOn d us → V.Goes (ts ++ us))
+          → Reading s0 V fault_of (Whole d) ts (text.first_term F meaning (text.parenthesised F meaning d) t)
+      unfolding text.first_term
+      first_reading ts t H K =
+          reading_sign s0 V fault_of minus _ _ H (at_once ts (K [] (expression_of_term d [] (term_of_factor d [] (factor_default d)))))
+          (λ u Hu. then_reading s0 V fault_of (λ f. Ok (negation F f.0, f.1))
+          (behind s0 V fault_of {Q = Term d} {R = Negative} ts (Sign minus ∷ []) _ (term_reading (ts ++ Sign minus ∷ []) u Hu (λ us g. behind_one ts us (Sign minus) (K (Sign minus ∷ us) (expression_of_minus d us g)))) (λ f vs h. (vs, refl, h)))
+          (λ f ws v k Hv. read ws (subst (Whole d (negation F f)) (sym k.1) (grammar.negative k.2.0, fine_negation L k.2.1)) Hv))
+          (plain (text.term_at F meaning (text.parenthesised F meaning d) t) (term_reading ts t H (λ us g. K us (expression_of_term d us g))))
+        where
+          Negative : Polynomial → List Token → Type 0
+          Negative f ws = (vs : List Token) × (ws ≡ Sign minus ∷ vs) × Term d f vs
+
+          plain : (r : text.Answer Polynomial) → Reading s0 V fault_of (Term d) ts r → Reading s0 V fault_of (Whole d) ts r
+          plain r (read us h Hu) = read us (grammar.first h.0, h.1) Hu
+          plain r (stuck Hu) = stuck Hu
+
+      plus_reading : (ts : List Token) → ((us : List Token) → GoesOn d us → V.Goes (ts ++ us)) → (x : Polynomial) (us : List Token) (t : State) (r : text.Answer Polynomial) → Whole d x us → SoFar s0 V (ts ++ us) t
+          → text.plus_term F meaning (text.parenthesised F meaning d) x t ≡ Some r → Reading s0 V fault_of (Whole d) ts r
+      unfolding text.plus_term
+      plus_reading ts K x us t r w H e = by (after_sign plus t) (after_sign minus t) refl refl e
+        where
+          added : State → text.Answer Polynomial
+          added v = text.term_at F meaning (text.parenthesised F meaning d) v >>= λ g. text.formed (text.within (sum F x g.0)) g.1
+
+          less : State → text.Answer Polynomial
+          less v = text.term_at F meaning (text.parenthesised F meaning d) v >>= λ g. text.formed (text.within (sum F x (negation F g.0))) g.1
+
+          Behind : ℕ → Polynomial → List Token → Type 0
+          Behind sgn g ws = (vs : List Token) × (ws ≡ us ++ Sign sgn ∷ vs) × Term d g vs
+
+          -- the term behind a sign
+          behind_sign : (sgn : ℕ) (v : State) → after_sign sgn t ≡ Some v → ((vs : List Token) → GoesOnTerm d vs → V.Goes (ts ++ (us ++ Sign sgn ∷ vs)))
+              → Reading s0 V fault_of (Behind sgn) ts (text.term_at F meaning (text.parenthesised F meaning d) v)
+          behind_sign sgn v is goes =
+              let Hv = regrouped s0 V ts us (Sign sgn ∷ []) (sign_taken s0 V sgn t v H (K us (expression_ends d us x w)) is) in
+              behind s0 V fault_of {Q = Term d} {R = Behind sgn} ts (us ++ Sign sgn ∷ []) _ (term_reading (ts ++ (us ++ Sign sgn ∷ [])) v Hv (λ vs g. behind_more ts us vs (Sign sgn) (goes vs g)))
+              (λ g vs k. (vs, append_assoc us (Sign sgn ∷ []) vs, k))
+
+          by : (o q : Option State) → after_sign plus t ≡ o → after_sign minus t ≡ q → option_map_or (λ v. Some (added v)) o (option_map less q) ≡ Some r → Reading s0 V fault_of (Whole d) ts r
+          by None None is not h = absurd cc
+          by (Some v) q is not h =
+              subst (Reading s0 V fault_of (Whole d) ts) (same_Some _ _ h)
+              (then_reading s0 V fault_of (λ g. text.formed (text.within (sum F x g.0)) g.1) (behind_sign plus v is (λ vs g. K (us ++ Sign plus ∷ vs) (expression_plus d us vs x w g)))
+              (λ g ws z k Hz. formed_reading s0 V ts ws (text.within (sum F x g)) z Hz
+              (λ y ok. let p = within-small (sum F x g) y ok in
+              subst (Whole d y) (sym k.1) (subst (λ a. Whole d a (us ++ Sign plus ∷ k.0)) p.0 (grammar.add w.0 k.2.0 p.1, record { polynomial = IsPolynomial-sum L w.1.polynomial k.2.1.polynomial; within = p.1 })))))
+          by None (Some v) not is h =
+              subst (Reading s0 V fault_of (Whole d) ts) (same_Some _ _ h)
+              (then_reading s0 V fault_of (λ g. text.formed (text.within (sum F x (negation F g.0))) g.1) (behind_sign minus v is (λ vs g. K (us ++ Sign minus ∷ vs) (expression_minus d us vs x w g)))
+              (λ g ws z k Hz. formed_reading s0 V ts ws (text.within (sum F x (negation F g))) z Hz
+              (λ y ok. let p = within-small (sum F x (negation F g)) y ok in
+              subst (Whole d y) (sym k.1) (subst (λ a. Whole d a (us ++ Sign minus ∷ k.0)) p.0 (grammar.less w.0 k.2.0 p.1, record { polynomial = IsPolynomial-sum L w.1.polynomial (IsPolynomial-negation L k.2.1.polynomial); within = p.1 })))))
+
+      sum_reading : (ts : List Token) (t : State) → SoFar s0 V ts t → ((us : List Token) → GoesOn d us → V.Goes (ts ++ us))
+          → Reading s0 V fault_of (Whole d) ts (text.sum_at F meaning (text.parenthesised F meaning d) t)
+      unfolding text.sum_at
+      sum_reading ts t H K =
+          then_reading s0 V fault_of _ (first_reading ts t H K)
+          (λ f us u h Hu. repeat_reading s0 V (text.plus_term F meaning (text.parenthesised F meaning d)) (Whole d) ts (plus_reading ts K) (length u.left) f us u h Hu)
+
+    inside_reading : (d : ℕ) → Inside d
+    unfolding text.parenthesised
+    inside_reading zero ts u H K = stuck (late s0 V H tt)
+    inside_reading (suc d) ts u H K =
+        then_reading s0 V fault_of _ (sum_reading d (inside_reading d) ts u H (λ us g. K us (inside_goes d us g)))
+        (λ f us v h Hv. let here = K us (inside_goes d us (expression_ends d us f h)) in
+        reading_sign s0 V fault_of closing _ _ Hv here
+        (λ x Hx. read (us ++ Sign closing ∷ []) (grammar.parentheses h.0, h.1) (regrouped s0 V ts us (Sign closing ∷ []) Hx)) (stuck (wrong_next s0 V Hv here)))
+
+    pub expression_reading : (ts : List Token) (t : State) → SoFar s0 V ts t → ((us : List Token) → GoesOn 64 us → V.Goes (ts ++ us)) → Reading s0 V fault_of (Whole 64) ts (text.expression F meaning t)
+    unfolding text.expression
+    expression_reading ts t H K = sum_reading 64 (inside_reading 64) ts t H K

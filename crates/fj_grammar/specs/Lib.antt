@@ -1,0 +1,5 @@
+pub mod Grammar
+pub mod GrammarLaws
+pub mod FirstFault
+pub mod Beginning
+pub mod Rank

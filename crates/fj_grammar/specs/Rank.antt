@@ -1,0 +1,75 @@
+-- The rank of kinds at the place of a fault: of each two that could stand at one place, the higher one is told.
+use Rattle.std.specs.Prelude.{◌≡◌, ◌≢◌, ℕ, zero, ◌+◌, ◌-◌, ◌^◌, ◌<◌, ◌≤◌, ◌⊎◌, List, [], ◌∷◌, ◌++◌, length, map, take, All, Contains, Option, Err, codes}
+use Rattle.fj_text.specs.Token.{Token, Word, Number, Sign, BadByte, Placed, opening, closing, tokens_from}
+use Rattle.fj_script.specs.declared.fault.Fault.{Fault}
+use Rattle.fj_script.specs.declared.fault.FaultKind.{FaultKind}
+use Rattle.fj_script.specs.declared.fault.FaultKind.TheVariants as kinds
+use Rattle.fj_grammar.specs.Beginning.{CanGoOnWith, IsDoomed, MakeSession}
+use Rattle.fj_grammar.specs.FirstFault.{HasStatements, line_at, tokens_before}
+use Rattle.fj_grammar.specs.Grammar.{AreListed, HasTerms, IsNew, IsSession, tokens_of}
+use Rattle.fj_script.specs.Items.{comma, equals}
+use Rattle.fj_script.specs.Script.{lines, script}
+use Rattle.fj_script.specs.Session.{Session, Terms, terms_in}
+
+-- This token stands at a place.
+abbrev pub StandsAt : Fault → List ℕ → Token → Type 0
+StandsAt place bytes t = (at : Placed) × Contains (tokens_from zero zero (line_at place.line bytes)) at × (at.start + 1 ≡ place.column) × (at.token ≡ t)
+
+-- The line of a place begins with this word.
+abbrev pub BeginsWith : Fault → List ℕ → List ℕ → Type 0
+BeginsWith place bytes w = (ts : List Token) × (tokens_of (line_at place.line bytes) ≡ Word w ∷ ts)
+
+-- The tokens before a place in its line, and the lines before it.
+abbrev pub tokens_to : Fault → List ℕ → List Token
+tokens_to place bytes = map (λ t. t.token) (tokens_before place.column (line_at place.line bytes))
+
+abbrev pub lines_to : Fault → List ℕ → List (List Token)
+lines_to place bytes = map tokens_of (take (place.line - 1) (lines bytes))
+
+-- A statement may have this token at a place: the tokens before it can go on with it, or they are one of the two beginnings
+-- that can't go on at all.
+abbrev pub MayStandAt : Fault → List ℕ → Token → Type 0
+MayStandAt place bytes t = (before : Option Session) × MakeSession (lines_to place bytes) before × (CanGoOnWith before (tokens_to place bytes) t ⊎ IsDoomed (tokens_to place bytes))
+
+-- The kinds that are told at a number, and those that are told at a word.
+abbrev pub IsOfNumber : FaultKind → Type 0
+IsOfNumber kind = (kind ≡ kinds.Prime) ⊎ (kind ≡ kinds.Wide) ⊎ (kind ≡ kinds.Range)
+
+abbrev pub IsOfWord : FaultKind → Type 0
+IsOfWord kind = (kind ≡ kinds.Vars) ⊎ (kind ≡ kinds.Taken) ⊎ (kind ≡ kinds.Unknown) ⊎ (kind ≡ kinds.Kind) ⊎ (kind ≡ kinds.Constant)
+
+abbrev pub Declares : List ℕ → Type 0
+Declares keyword = (keyword ≡ codes "poly") ⊎ (keyword ≡ codes "ideal") ⊎ (keyword ≡ codes "point")
+
+-- Tokens up to one at which there are too many of something, in a line behind this session. No higher kind stands there: the
+-- name is none of the session's, and each value that is formed in an expression is within its limits.
+pub data AreTooMany (S : Session) : List Token → Type 0 where
+  questions : 4096 ≤ length S.asked → AreTooMany S (Word (codes "ask") ∷ [])
+  names : {keyword name : List ℕ} → Declares keyword → All (λ v. v ≢ name) S.variables → All (λ v. v.0 ≢ name) S.values → 4096 ≤ length S.values → AreTooMany S (Word keyword ∷ Word name ∷ [])
+  generators : {name : List ℕ} {ts : List Token} {fs : List Terms} → IsNew S name → AreListed (HasTerms S) ts fs → length fs ≡ 64 → AreTooMany S (Word (codes "ideal") ∷ Word name ∷ Sign equals ∷ Sign opening ∷ ts ++ Sign comma ∷ [])
+  terms : {name : List ℕ} {ts : List Token} {f : Terms} → IsNew S name → HasTerms S ts f → 1000000 < S.terms + length f → AreTooMany S (Word (codes "poly") ∷ Word name ∷ Sign equals ∷ ts)
+  generator_terms : {name : List ℕ} {ts : List Token} {fs : List Terms} → IsNew S name → AreListed (HasTerms S) ts fs → length fs ≤ 64 → 1000000 < S.terms + terms_in fs
+      → AreTooMany S (Word (codes "ideal") ∷ Word name ∷ Sign equals ∷ Sign opening ∷ ts)
+
+-- Of two kinds that could stand at one place the lower one is told only where the higher one doesn't stand.
+pub record IsHighest (bytes : List ℕ) (place : Fault) : Type 0 where
+  pub byte_over_others : StandsAt place bytes BadByte → place.kind ≡ kinds.Byte
+  -- where something is wrong with a number, a number may stand, and where something is wrong with a word, a word
+  pub syntax_over_number : IsOfNumber place.kind → (n : ℕ) × MayStandAt place bytes (Number n)
+  pub syntax_over_word : IsOfWord place.kind → (w : List ℕ) × MayStandAt place bytes (Word w)
+  -- a closing parenthesis behind too few coordinates stands behind a number
+  pub syntax_over_arity : place.kind ≡ kinds.Arity → StandsAt place bytes (Sign closing) → (n : ℕ) × (ts : List Token) × (tokens_to place bytes ≡ ts ++ Number n ∷ [])
+  -- no number of the ring's line is Wide
+  pub prime_over_wide : place.kind ≡ kinds.Wide → BeginsWith place bytes (codes "ring") → ⊥
+  -- a number that is Large, that is out of range, or with which there are too many terms isn't wide
+  pub wide_over_large : place.kind ≡ kinds.Large → (n : ℕ) → StandsAt place bytes (Number n) → n < 2 ^ 32
+  pub wide_over_range : place.kind ≡ kinds.Range → (n : ℕ) → StandsAt place bytes (Number n) → n < 2 ^ 32
+  pub wide_over_many : place.kind ≡ kinds.Many → (n : ℕ) → StandsAt place bytes (Number n) → n < 2 ^ 32
+  -- a variable that is taken is one of the first seven: at most `ring`, the prime, and six variables with their commas stand before it
+  pub vars_over_taken : place.kind ≡ kinds.Taken → BeginsWith place bytes (codes "ring") → length (tokens_before place.column (line_at place.line bytes)) ≤ 14
+  -- a name too many is no name yet, and an expression with which there are too many terms has its value
+  pub taken_and_large_over_many : place.kind ≡ kinds.Many → (t : Token) → StandsAt place bytes t → (S : Session) × IsSession (lines_to place bytes) S × AreTooMany S (tokens_to place bytes ++ t ∷ [])
+
+-- The kind of a fault is the highest at its place.
+abbrev pub KindIsHighest : Type 0
+KindIsHighest = (bytes : List ℕ) (place : Fault) → HasStatements bytes → script bytes ≡ Err place → IsHighest bytes place

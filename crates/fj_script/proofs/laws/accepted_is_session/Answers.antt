@@ -1,5 +1,0 @@
-use Rattle.fj_script.proofs.GrammarSound.{session_sound}
-use Rattle.fj_script.proofs.laws.accepted_is_session.Goals as goal
-
-pub returns : goal.returns
-returns c bytes S e = session_sound bytes S e

@@ -1,5 +1,0 @@
-use Rattle.fj_script.proofs.GrammarComplete.{session_complete}
-use Rattle.fj_script.proofs.laws.session_is_accepted.Goals as goal
-
-pub returns : goal.returns
-returns c bytes S h = session_complete bytes S h
