@@ -4,8 +4,8 @@ use Rattle.std.specs.List.{slice_get}
 use Rattle.std.specs.Option.{option_map_or}
 use Rattle.std.proofs.lemmas.Bool.{leb-false, ltb-false}
 use Rattle.fj_coeff.specs.Field.{primes}
-use Rattle.fj_text.specs.State.{State, after, end_of, unexpected}
-use Rattle.fj_text.specs.Token.{Token, Word, Number, Sign, BadByte, Placed}
+use Rattle.fj_text.specs.State.{State}
+use Rattle.fj_text.specs.Token.{Token, Word, Number, Sign, BadByte}
 use Rattle.fj_grammar.specs.Beginning.{CanGoOn, CanGoOnWith, IsDoomed}
 use Rattle.fj_script.specs.declared.fault.FaultKind.{FaultKind}
 use Rattle.fj_script.specs.declared.fault.FaultKind.TheVariants as kinds
@@ -15,14 +15,14 @@ use Rattle.fj_script.specs.declared.value.Kind.TheVariants as values
 use Rattle.fj_grammar.specs.Grammar as grammar
 use Rattle.fj_grammar.specs.Grammar.{IsExponent, IsLevel, IsQuestion, IsRatio, NamesIdeal, NamesNonconstant, NamesPoint, NamesPolynomial}
 use Rattle.fj_script.specs.Items.{narrow, number, number_of, word, word_of}
-use Rattle.fj_script.specs.LineFault.{Answer, ◌>>=◌, fault_at, fault_of, not_here}
+use Rattle.fj_script.specs.LineFault.{Answer, ◌>>=◌, fault_at, not_here}
 use Rattle.fj_script.specs.Names as names
 use Rattle.fj_script.specs.Numbers as numbers
 use Rattle.fj_script.specs.Question as question
 use Rattle.fj_script.specs.Question.{Target}
 use Rattle.fj_grammar.specs.Rank.{AreTooMany}
 use Rattle.fj_script.specs.Session.{Session, Value, ask, kind}
-use Rattle.fj_grammar.proofs.Beginnings.{Fits, Numbers, Reading, Sayings, SoFar, StandsAt, Stuck, Took, Words, all_left, behind, end_last, late, numbers_at, read, reading_if, reading_next, sound, stuck, then_reading, tokens_all, toks, unexpected_blames, unexpected_fits, words_at, wrong_token}
+use Rattle.fj_grammar.proofs.Beginnings.{Fits, Numbers, Reached, Reading, Sayings, SoFar, Took, Words, behind, late, numbers_at, read, reading_if, reading_next, sound, stuck, then_reading, toks, words_at, wrong_token}
 use Rattle.fj_grammar.proofs.Continuations.{fresh, longest, some_ideal, some_level, some_nonconstant, some_polynomial, wide, wide_alike, wide_ideal, wide_nonconstant, wide_point, wide_polynomial}
 use Rattle.fj_grammar.proofs.GrammarPieces.{Declares, as_ideal, as_nonconstant, as_point, as_polynomial, declared_at, neither, not_zero}
 
@@ -43,11 +43,11 @@ behind_lines before = record { Goes = MayStand before; Next = MayFollow before; 
 module _ (s0 : State) (V : Sayings) where
   -- A rule that takes a token first, where the tokens before it can go on.
   abbrev pub IsReader : {A : Type 0} → (A → List Token → Type 0) → (State → Answer A) → Type 0
-  IsReader Q R = (ws : List Token) (t : State) → SoFar s0 V ws t → V.Goes ws → Reading s0 V (λ e. e) Q ws (R t)
+  IsReader Q R = (ws : List Token) (t : State) → Reached s0 ws t → V.Goes ws → Reading s0 V (λ e. e) Q ws (R t)
 
   -- One that takes a number, or a word, where these tokens can go on with one.
   abbrev pub IsReaderOf : (List Token → Type 0) → {A : Type 0} → (A → List Token → Type 0) → (State → Answer A) → Type 0
-  IsReaderOf Next Q R = (ws : List Token) (t : State) → SoFar s0 V ws t → V.Goes ws → Next ws → Reading s0 V (λ e. e) Q ws (R t)
+  IsReaderOf Next Q R = (ws : List Token) (t : State) → Reached s0 ws t → V.Goes ws → Next ws → Reading s0 V (λ e. e) Q ws (R t)
 
   pub number_of_reading : (ws : List Token) (tok : Token) (u : State) → Took s0 V (ws ++ tok ∷ []) u → Reading s0 V (λ e. e) (λ n us. us ≡ Number n ∷ []) ws (number_of tok u)
   unfolding number_of
@@ -121,7 +121,7 @@ module _ (s0 : State) (V : Sayings) where
         H : SoFar s0 V (ws ++ Word w ∷ []) u
         H = sound s0 V ws (Word w) tt Hw
 
-        either : (b : Bool) → Fits s0 V (cond b kinds.Kind kinds.Unknown) (toks H.took.init) (H.took.last.token ∷ toks u.left)
+        either : (b : Bool) → Fits s0 V (cond b kinds.Kind kinds.Unknown) (toks H.reached.init) (H.reached.last.token ∷ toks u.left)
         either true = words_at s0 V H refl k
         either false = words_at s0 V H refl k
 
@@ -145,7 +145,7 @@ module _ (s0 : State) (V : Sayings) where
       where
         by : (x : ℕ × Kind) (us : List Token) (u : State) → (w : List ℕ) × (us ≡ Word w ∷ []) × Declares S w x.0 x.1 → SoFar s0 V (ws ++ us) u → (o : Option FaultKind) → kept x.1 ≡ o → IfSome o (λ fault. (ts us : List Token) → Words s0 V ts → Fits s0 V fault ts us)
             → Reading s0 V (λ e. e) (λ x us. (tok : Token) × (us ≡ tok ∷ []) × IsName Is x tok) ws (option_map_or (λ fault. Err (fault_at fault u)) o (Ok (x.0, u)))
-        by x us u d Hu (Some fault) e fits = stuck (late s0 V Hu (fits (toks Hu.took.init) (Hu.took.last.token ∷ toks u.left) (words_at s0 V Hu d.1 k)))
+        by x us u d Hu (Some fault) e fits = stuck (late s0 V Hu (fits (toks Hu.reached.init) (Hu.reached.last.token ∷ toks u.left) (words_at s0 V Hu d.1 k)))
         by x us u d Hu None e fits = read us (Word d.0, d.1, (d.0, refl, each d.0 x.0 d.2.0 d.2.1 (ap kept d.2.2 ∙ e))) Hu
 
     polynomial_refused : Refuses names.as_polynomial
@@ -216,49 +216,21 @@ module _ (s0 : State) (V : Sayings) where
         → (ts : List Token) (t : State) → SoFar s0 V ts t → Here NextA ts → ((x : A) (a : Token) → HereA x a → Here NextB (ts ++ a ∷ []))
         → Reading s0 V (λ e. e) Q ts (RA t >>= λ x. RB x.1 >>= λ y. Ok (q x.0 y.0, y.1))
     two_arguments Q q is ts t H v v1 =
-        then_reading s0 V (λ e. e) _ (readA ts t H v.0 v.1)
+        then_reading s0 V (λ e. e) _ (readA ts t H.reached v.0 v.1)
         (λ x us u h Hu. let Ha = subst (λ ws. SoFar s0 V (ts ++ ws) u) h.1 Hu in
-        then_reading s0 V (λ e. e) _ (behind s0 V (λ e. e) {R = λ y ws. (b : Token) × (ws ≡ h.0 ∷ b ∷ []) × HereB y b} ts (h.0 ∷ []) (RB u) (readB (ts ++ h.0 ∷ []) u Ha (v1 x h.0 h.2).0 (v1 x h.0 h.2).1) (λ y vs k. (k.0, ap (λ ws. h.0 ∷ ws) k.1, k.2)))
+        then_reading s0 V (λ e. e) _ (behind s0 V (λ e. e) {R = λ y ws. (b : Token) × (ws ≡ h.0 ∷ b ∷ []) × HereB y b} ts (h.0 ∷ []) (RB u) (readB (ts ++ h.0 ∷ []) u Ha.reached (v1 x h.0 h.2).0 (v1 x h.0 h.2).1) (λ y vs k. (k.0, ap (λ ws. h.0 ∷ ws) k.1, k.2)))
         (λ y ws w k Hw. read ws (subst (Q (q x y)) (sym k.1) (is x y h.0 k.0 h.2 k.2)) Hw))
 
     pub three_arguments : (Q : Question → List Token → Type 0) (q : A → B → C → Question) → ((x : A) (y : B) (z : C) (a b c : Token) → HereA x a → HereB y b → HereC z c → Q (q x y z) (a ∷ b ∷ c ∷ []))
         → (ts : List Token) (t : State) → SoFar s0 V ts t → Here NextA ts → ((x : A) (a : Token) → HereA x a → Here NextB (ts ++ a ∷ [])) → ((x : A) (y : B) (a b : Token) → HereA x a → HereB y b → Here NextC (ts ++ a ∷ b ∷ []))
         → Reading s0 V (λ e. e) Q ts (RA t >>= λ x. RB x.1 >>= λ y. RC y.1 >>= λ z. Ok (q x.0 y.0 z.0, z.1))
     three_arguments Q q is ts t H v v1 v2 =
-        then_reading s0 V (λ e. e) _ (readA ts t H v.0 v.1)
+        then_reading s0 V (λ e. e) _ (readA ts t H.reached v.0 v.1)
         (λ x us u h Hu. let Ha = subst (λ ws. SoFar s0 V (ts ++ ws) u) h.1 Hu in
-        then_reading s0 V (λ e. e) _ (behind s0 V (λ e. e) {R = λ y ws. (b : Token) × (ws ≡ h.0 ∷ b ∷ []) × HereB y b} ts (h.0 ∷ []) (RB u) (readB (ts ++ h.0 ∷ []) u Ha (v1 x h.0 h.2).0 (v1 x h.0 h.2).1) (λ y vs k. (k.0, ap (λ ws. h.0 ∷ ws) k.1, k.2)))
+        then_reading s0 V (λ e. e) _ (behind s0 V (λ e. e) {R = λ y ws. (b : Token) × (ws ≡ h.0 ∷ b ∷ []) × HereB y b} ts (h.0 ∷ []) (RB u) (readB (ts ++ h.0 ∷ []) u Ha.reached (v1 x h.0 h.2).0 (v1 x h.0 h.2).1) (λ y vs k. (k.0, ap (λ ws. h.0 ∷ ws) k.1, k.2)))
         (λ y vs w k Hw. let Hb = subst (λ ws. SoFar s0 V (ts ++ ws) w) k.1 Hw in
-        then_reading s0 V (λ e. e) _ (behind s0 V (λ e. e) {R = λ z ws. (c : Token) × (ws ≡ h.0 ∷ k.0 ∷ c ∷ []) × HereC z c} ts (h.0 ∷ k.0 ∷ []) (RC w) (readC (ts ++ h.0 ∷ k.0 ∷ []) w Hb (v2 x y h.0 k.0 h.2 k.2).0 (v2 x y h.0 k.0 h.2 k.2).1) (λ z vs l. (l.0, ap (λ ws. h.0 ∷ k.0 ∷ ws) l.1, l.2)))
+        then_reading s0 V (λ e. e) _ (behind s0 V (λ e. e) {R = λ z ws. (c : Token) × (ws ≡ h.0 ∷ k.0 ∷ c ∷ []) × HereC z c} ts (h.0 ∷ k.0 ∷ []) (RC w) (readC (ts ++ h.0 ∷ k.0 ∷ []) w Hb.reached (v2 x y h.0 k.0 h.2 k.2).0 (v2 x y h.0 k.0 h.2 k.2).1) (λ z vs l. (l.0, ap (λ ws. h.0 ∷ k.0 ∷ ws) l.1, l.2)))
         (λ z ws o l Ho. read ws (subst (Q (q x y z)) (sym l.1) (is x y z h.0 k.0 l.0 h.2 k.2 l.2)) Ho)))
-
--- What was taken so far, where nothing is known of the tokens before it.
-pub wrong_behind : (s0 : State) (U V : Sayings) {ts : List Token} {t : State} → SoFar s0 U ts t → V.Goes ts → Stuck s0 V (fault_of (unexpected t))
-unfolding unexpected
-wrong_behind s0 U V {ts} {t} H v = record {
-  before = H.took.init ++ H.took.last ∷ [];
-  rest = t.left;
-  all = all_left s0 U H.took;
-  at = by t.left;
-  goes_on = subst V.Goes (tokens_all s0 U H.took) v;
-  fits = unexpected_fits s0 V (toks (H.took.init ++ H.took.last ∷ [])) t;
-  blames = unexpected_blames t;
-}
-  where
-    by : (us : List Placed) → StandsAt (unexpected (record { left = us; start = t.start; end = t.end })).place us (end_of (H.took.init ++ H.took.last ∷ []) s0.end)
-    by [] = H.took.end ∙ sym (end_last H.took.init H.took.last s0.end)
-    by (u ∷ us) = refl
-
-pub taken_behind : (s0 : State) (U V : Sayings) {ts : List Token} {t : State} → SoFar s0 U ts t → V.Goes ts → (p : Placed) (rest : List Placed) → t.left ≡ p ∷ rest → Took s0 V (ts ++ p.token ∷ []) (after p rest)
-taken_behind s0 U V H v p rest e = record {
-  init = H.took.init ++ H.took.last ∷ [];
-  last = p;
-  all = all_left s0 U H.took ∙ ap (λ us. (H.took.init ++ H.took.last ∷ []) ++ us) e;
-  tokens = ap (λ us. us ++ p.token ∷ []) (tokens_all s0 U H.took);
-  start = refl;
-  end = refl;
-  goes_on = subst V.Goes (tokens_all s0 U H.took) v;
-}
 
 -- ---- the questions of a session
 
@@ -399,7 +371,7 @@ module _ (s0 : State) (S : Session) (known : Contains primes S.prime) where
         → Reading s0 (behind_lines (Some S)) (λ e. e) (Asks kw) (Word (codes "ask") ∷ Word kw ∷ []) (X.rule t >>= λ x. Ok (q x.0, x.1))
     asks_one {A} X q is goes =
         let v = argument_next X (Word kw ∷ []) (λ n. let d = X.default n in ([], q d.0, goes n d.0 d.1 d.2)) in
-        then_reading s0 (behind_lines (Some S)) (λ e. e) _ (X.reads (Word (codes "ask") ∷ Word kw ∷ []) t H v.0 v.1)
+        then_reading s0 (behind_lines (Some S)) (λ e. e) _ (X.reads (Word (codes "ask") ∷ Word kw ∷ []) t H.reached v.0 v.1)
         (λ x us u h Hu. read us (subst (λ ws. Asks kw (q x) ws) (sym (h.1 ∙ ap (λ tok. tok ∷ []) h.2.1)) (is x h.2.0 h.2.2)) Hu)
 
     pub asks_two : {A B : Type 0} (X : Argument A) (Y : Argument B) (q : A → B → Question)

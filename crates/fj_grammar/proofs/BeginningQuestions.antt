@@ -1,7 +1,6 @@
 -- What was read of a question before a fault can go on.
-use Rattle.std.proofs.Common.{◌≡◌, ℕ, zero, suc, ◌+◌, ◌^◌, ◌<◌, Bool, true, false, cond, leb, List, [], ◌∷◌, ◌++◌, length, codes, Contains, Option, Some, None, Ok, Err, refl, sym, ap, ◌∙◌, subst, arith, append_assoc, inr}
+use Rattle.std.proofs.Common.{◌≡◌, ℕ, zero, suc, ◌+◌, ◌^◌, ◌<◌, Bool, true, false, cond, List, [], ◌∷◌, ◌++◌, length, codes, Contains, Option, Some, None, Ok, Err, refl, sym, ap, ◌∙◌, subst, arith, append_assoc, inr}
 use Rattle.std.specs.Option.{option_map_or}
-use Rattle.std.proofs.lemmas.Bool.{leb-false}
 use Rattle.fj_coeff.specs.Field.{primes}
 use Rattle.fj_theory.specs.Fraction.{Fraction}
 use Rattle.fj_text.specs.State.{State, after, after_sign, next}
@@ -19,44 +18,24 @@ use Rattle.fj_script.specs.declared.question.Question.{Question}
 use Rattle.fj_script.specs.declared.question.Question.TheVariants as questions
 use Rattle.fj_grammar.specs.Grammar as grammar
 use Rattle.fj_grammar.specs.Grammar.{IsExponent, IsLevel, IsQuestion, IsRatio, NamesIdeal, NamesNonconstant, NamesPoint}
-use Rattle.fj_script.specs.Items.{narrow, number, number_of, slash}
-use Rattle.fj_script.specs.LineFault.{Answer, ◌>>=◌, fault_at, not_here}
+use Rattle.fj_script.specs.Items.{narrow, slash}
+use Rattle.fj_script.specs.LineFault.{Answer, ◌>>=◌, fault_at}
 use Rattle.fj_script.specs.Names as names
 use Rattle.fj_script.specs.Numbers as numbers
 use Rattle.fj_script.specs.Question as question
 use Rattle.fj_script.specs.Question.{Target}
 use Rattle.fj_script.specs.Session.{Session}
 use Rattle.fj_script.proofs.AcceptedYields.{Yields}
-use Rattle.fj_grammar.proofs.Beginnings.{Numbers, Reading, Sayings, SoFar, Took, Words, behind, front_same, late, numbers_at, read, reading_if, sign_taken, stuck, taken, then_reading, toks}
-use Rattle.fj_grammar.proofs.BeginningLines.{Asks, MayStand, TargetIn, argument_next, ask_goes, ask_with, asks_one, asks_three, asks_two, behind_lines, exponent_argument, ideal_argument, ideal_reading, level_argument, narrow_reading, nonconstant_argument, nonconstant_reading, number_of_reading, point_by_reading, polynomial_argument, taken_behind, target_argument, word_reading, wrong_behind}
+use Rattle.fj_grammar.proofs.Beginnings.{Numbers, Reached, Reading, Sayings, SoFar, Words, behind, front_same, late, numbers_at, read, sign_reached, stuck, taken, then_reading, toks}
+use Rattle.fj_grammar.proofs.BeginningLines.{Asks, MayStand, TargetIn, argument_next, ask_goes, ask_with, asks_one, asks_three, asks_two, behind_lines, exponent_argument, ideal_argument, ideal_reading, level_argument, narrow_reading, nonconstant_argument, nonconstant_reading, point_by_reading, polynomial_argument, target_argument, word_reading}
 use Rattle.fj_grammar.proofs.Continuations.{fresh, longest, nothing_ratio, one_above, one_ratio, some_ideal, some_nonconstant, some_point, whole_ratio, wide, wide_ideal, wide_nonconstant, zero_ratio}
 use Rattle.fj_grammar.proofs.GrammarPieces.{Taken, ratio_of_takes}
 use Rattle.fj_grammar.proofs.GrammarSound.{ask_is, ask_word}
 
 -- ---- fractions
 
--- Where nothing is known of tokens.
-abbrev anything : Sayings
-anything = record { Goes = λ ts. Unit {0}; Next = λ ts t. Unit {0}; Many = λ ts. Unit {0} }
-
 module _ (s0 : State) (V : Sayings) where
-  -- a number behind tokens of which nothing is known but that they can go on
-  number_behind : (ws : List Token) (t : State) → SoFar s0 anything ws t → V.Goes ws → Reading s0 V (λ e. e) (λ n us. us ≡ Number n ∷ []) ws (number t)
-  unfolding number next
-  number_behind ws t H v = by t.left refl
-    where
-      by : (us : List Placed) → t.left ≡ us
-          → Reading s0 V (λ e. e) (λ n us. us ≡ Number n ∷ []) ws (option_map_or (λ u. number_of u.0 u.1) (next (record { left = us; start = t.start; end = t.end })) (Err (not_here t)))
-      by [] e = stuck (wrong_behind s0 anything V H v)
-      by (p ∷ rest) e = number_of_reading s0 V ws p.token (after p rest) (taken_behind s0 anything V H v p rest e)
-
-  narrow_behind : (ws : List Token) (t : State) → SoFar s0 anything ws t → V.Goes ws → Numbers s0 V ws → Reading s0 V (λ e. e) (λ n us. (us ≡ Number n ∷ []) × (n < 2 ^ 32)) ws (narrow t)
-  unfolding narrow
-  narrow_behind ws t H v k =
-      then_reading s0 V (λ e. e) _ (number_behind ws t H v)
-      (λ n us u e Hu. reading_if s0 V (λ e. e) (leb (2 ^ 32) n) _ _ (λ _. stuck (late s0 V Hu (numbers_at s0 V Hu e k))) (λ few. read us (e, leb-false _ _ few) Hu))
-
-  ratio_of_reading : (positive : Bool) (m n : ℕ) → m < 2 ^ 32 → n < 2 ^ 32 → (ts us : List Token) (u : State) (H : SoFar s0 V (ts ++ us) u) → Numbers s0 V (toks H.took.init)
+  ratio_of_reading : (positive : Bool) (m n : ℕ) → m < 2 ^ 32 → n < 2 ^ 32 → (ts us : List Token) (u : State) (H : SoFar s0 V (ts ++ us) u) → Numbers s0 V (toks H.reached.init)
       → Reading s0 V (λ e. e) (λ t vs. (vs ≡ us) × Taken positive m n t) ts (numbers.ratio_of positive m n u)
   unfolding numbers.ratio_of
   ratio_of_reading positive m n few fewer ts us u H k = by (numbers.lowest m n) (ratio_of_takes positive m n u few fewer)
@@ -73,7 +52,7 @@ module _ (s0 : State) (V : Sayings) where
       by None h = stuck (late s0 V H k)
       by (Some t) h = at t (numbers.is_exponent positive t) h
 
-  pub ratio_reading : (positive : Bool) (ws : List Token) (t : State) → SoFar s0 V ws t → V.Goes ws → Numbers s0 V ws → ((m : ℕ) → m < 2 ^ 32 → V.Goes (ws ++ Number m ∷ Sign slash ∷ []) × Numbers s0 V (ws ++ Number m ∷ Sign slash ∷ []))
+  pub ratio_reading : (positive : Bool) (ws : List Token) (t : State) → Reached s0 ws t → V.Goes ws → Numbers s0 V ws → ((m : ℕ) → m < 2 ^ 32 → V.Goes (ws ++ Number m ∷ Sign slash ∷ []) × Numbers s0 V (ws ++ Number m ∷ Sign slash ∷ []))
       → Reading s0 V (λ e. e) (λ t us. IsRatio us t × (positive ≡ true → 0 < t.numerator)) ws (numbers.ratio positive t)
   unfolding numbers.ratio
   ratio_reading positive ws t H v k goes = then_reading s0 V (λ e. e) _ (narrow_reading s0 V ws t H v k) (λ m us u h Hu. by m us u h Hu (after_sign slash u) refl)
@@ -82,10 +61,10 @@ module _ (s0 : State) (V : Sayings) where
       Goal t us = IsRatio us t × (positive ≡ true → 0 < t.numerator)
 
       -- the last number of a fraction
-      last_of : (m n : ℕ) (vs : List Token) (y : State) → vs ≡ Number m ∷ Sign slash ∷ Number n ∷ [] → (Hy : SoFar s0 V (ws ++ vs) y) → Numbers s0 V (ws ++ Number m ∷ Sign slash ∷ []) → Numbers s0 V (toks Hy.took.init)
+      last_of : (m n : ℕ) (vs : List Token) (y : State) → vs ≡ Number m ∷ Sign slash ∷ Number n ∷ [] → (Hy : SoFar s0 V (ws ++ vs) y) → Numbers s0 V (ws ++ Number m ∷ Sign slash ∷ []) → Numbers s0 V (toks Hy.reached.init)
       last_of m n vs y e Hy =
           let split : (ws ++ Number m ∷ Sign slash ∷ []) ++ Number n ∷ [] ≡ ws ++ vs = append_assoc ws (Number m ∷ Sign slash ∷ []) (Number n ∷ []) ∙ ap (λ us. ws ++ us) (sym e) in
-          subst (Numbers s0 V) (front_same (ws ++ Number m ∷ Sign slash ∷ []) (toks Hy.took.init) (Number n) Hy.took.last.token (split ∙ Hy.took.tokens))
+          subst (Numbers s0 V) (front_same (ws ++ Number m ∷ Sign slash ∷ []) (toks Hy.reached.init) (Number n) Hy.reached.last.token (split ∙ Hy.reached.tokens))
 
       whole : (m : ℕ) (us : List Token) → us ≡ Number m ∷ [] → (r : Answer Fraction) → Reading s0 V (λ e. e) (λ t vs. (vs ≡ us) × Taken positive m 1 t) ws r → Reading s0 V (λ e. e) Goal ws r
       whole m us e r (read {x = x} vs h K) = read vs (subst (λ ts. IsRatio ts x) (sym (h.0 ∙ e)) (grammar.whole h.1.0), h.1.1) K
@@ -99,11 +78,9 @@ module _ (s0 : State) (V : Sayings) where
           → Reading s0 V (λ e. e) Goal ws (option_map_or (λ t. narrow t >>= λ n. numbers.ratio_of positive m n.0 n.1) o (numbers.ratio_of positive m 1 u))
       by m us u h Hu None e = whole m us h.0 _ (ratio_of_reading positive m 1 h.1 (omega arith) ws us u Hu (numbers_at s0 V Hu h.0 k))
       by m us u h Hu (Some x) e =
-          let read_before : Took s0 anything (ws ++ us) u = record { init = Hu.took.init; last = Hu.took.last; all = Hu.took.all; tokens = Hu.took.tokens; start = Hu.took.start; end = Hu.took.end; goes_on = tt } in
-          let bare : SoFar s0 anything (ws ++ us) u = record { took = read_before; sound = Hu.sound } in
-          let slashed = sign_taken s0 anything slash u x bare tt e in
+          let slashed = sign_reached s0 slash u x Hu.reached e in
           let here : (ws ++ us) ++ Sign slash ∷ [] ≡ ws ++ Number m ∷ Sign slash ∷ [] = append_assoc ws us (Sign slash ∷ []) ∙ ap (λ vs. ws ++ (vs ++ Sign slash ∷ [])) h.0 in
-          let read_n = narrow_behind (ws ++ Number m ∷ Sign slash ∷ []) x (subst (λ vs. SoFar s0 anything vs x) here slashed) (goes m h.1).0 (goes m h.1).1 in
+          let read_n = narrow_reading s0 V (ws ++ Number m ∷ Sign slash ∷ []) x (subst (λ vs. Reached s0 vs x) here slashed) (goes m h.1).0 (goes m h.1).1 in
           then_reading s0 V (λ e. e) _
           (behind s0 V (λ e. e) {R = λ n vs. (vs ≡ Number m ∷ Sign slash ∷ Number n ∷ []) × (n < 2 ^ 32)} ws (Number m ∷ Sign slash ∷ []) (narrow x) read_n (λ n vs l. (ap (λ xs. Number m ∷ Sign slash ∷ xs) l.0, l.1)))
           (λ n vs y l Hy. over m n vs l.0 _ (ratio_of_reading positive m n h.1 l.1 ws vs y Hy (last_of m n vs y l.0 Hy (goes m h.1).1)))
@@ -117,12 +94,12 @@ module _ (s0 : State) (S : Session) (known : Contains primes S.prime) where
   test_reading which t H =
       let named = argument_next s0 S known (nonconstant_argument s0 S known) (Word (ask_word (asks.TestIdeal which)) ∷ [])
       (λ n. (Number 1 ∷ [], _, wide_test which n (fresh (n + 1)) (length S.values + 0) (some_nonconstant S n) (Number 1 ∷ []) one_ratio (grammar.whole (whole_ratio 1 (omega arith) (omega arith))) (λ _. one_above))) in
-      then_reading s0 (behind_lines (Some S)) (λ e. e) _ (nonconstant_reading s0 (behind_lines (Some S)) S (Word (codes "ask") ∷ Word (ask_word (asks.TestIdeal which)) ∷ []) t H named.0 named.1)
+      then_reading s0 (behind_lines (Some S)) (λ e. e) _ (nonconstant_reading s0 (behind_lines (Some S)) S (Word (codes "ask") ∷ Word (ask_word (asks.TestIdeal which)) ∷ []) t H.reached named.0 named.1)
       (λ f us u h Hu. let w = h.2.0 in
       let is : us ≡ Word w ∷ [] = h.1 ∙ ap (λ tok. tok ∷ []) h.2.1 in
       let Hw = subst (λ ws. SoFar s0 (behind_lines (Some S)) (Word (codes "ask") ∷ Word (ask_word (asks.TestIdeal which)) ∷ ws) u) is Hu in
       let one = one_next w f h.2.2 in
-      let ratio = ratio_reading s0 (behind_lines (Some S)) (question.is_above_zero which) (Word (codes "ask") ∷ Word (ask_word (asks.TestIdeal which)) ∷ Word w ∷ []) u Hw one.0 one.1 (slashed which w f h.2.2) in
+      let ratio = ratio_reading s0 (behind_lines (Some S)) (question.is_above_zero which) (Word (codes "ask") ∷ Word (ask_word (asks.TestIdeal which)) ∷ Word w ∷ []) u Hw.reached one.0 one.1 (slashed which w f h.2.2) in
       then_reading s0 (behind_lines (Some S)) (λ e. e) _
       (behind s0 (behind_lines (Some S)) (λ e. e) {R = λ x ws. (vs : List Token) × (ws ≡ Word w ∷ vs) × (IsRatio vs x × (question.is_above_zero which ≡ true → 0 < x.numerator))} (Word (codes "ask") ∷ Word (ask_word (asks.TestIdeal which)) ∷ []) (Word w ∷ []) _ ratio (λ x vs k. (vs, refl, k)))
       (λ x ws y k Hy. read ws (subst (λ vs. Asks s0 S known (ask_word (asks.TestIdeal which)) (question.about_test_ideal which f x) vs) (sym k.1) (here_test which w f h.2.2 k.0 x k.2.0 k.2.1)) Hy))
@@ -176,7 +153,7 @@ module _ (s0 : State) (S : Session) (known : Contains primes S.prime) where
   unfolding question.pure next ideal_argument
   pure_reading t H =
       let named = argument_next s0 S known (ideal_argument s0 S known) (Word (codes "fpure") ∷ []) (λ n. ([], _, grammar.fpure (some_ideal S n))) in
-      then_reading s0 (behind_lines (Some S)) (λ e. e) _ (ideal_reading s0 (behind_lines (Some S)) S (Word (codes "ask") ∷ Word (codes "fpure") ∷ []) t H named.0 named.1)
+      then_reading s0 (behind_lines (Some S)) (λ e. e) _ (ideal_reading s0 (behind_lines (Some S)) S (Word (codes "ask") ∷ Word (codes "fpure") ∷ []) t H.reached named.0 named.1)
       (λ j us u h Hu. by j h.2.0 h.2.2 us (h.1 ∙ ap (λ tok. tok ∷ []) h.2.1) u Hu u.left refl)
     where
       base : List Token
@@ -195,7 +172,7 @@ module _ (s0 : State) (S : Session) (known : Contains primes S.prime) where
       by j w h us e u Hu (p ∷ rest) is =
           let Hw = subst (λ ws. SoFar s0 (behind_lines (Some S)) (base ++ ws) u) e Hu in
           let v = ask_goes s0 S known (Word (codes "fpure") ∷ Word w ∷ []) (λ n. ([], _, grammar.fpure (wide_ideal S n w j h))) in
-          let point = point_by_reading s0 (behind_lines (Some S)) S (Word (codes "ask") ∷ Word (codes "fpure") ∷ Word w ∷ []) p.token (after p rest) (taken s0 (behind_lines (Some S)) Hw v p rest is) (point_next w j h) in
+          let point = point_by_reading s0 (behind_lines (Some S)) S (Word (codes "ask") ∷ Word (codes "fpure") ∷ Word w ∷ []) p.token (after p rest) (taken s0 (behind_lines (Some S)) Hw.reached v p rest is) (point_next w j h) in
           then_reading s0 (behind_lines (Some S)) (λ e. e) _
           (behind s0 (behind_lines (Some S)) (λ e. e) {R = λ i ws. (x : List ℕ) × (ws ≡ Word w ∷ Word x ∷ []) × NamesPoint S x i} base (Word w ∷ []) _ point (λ i vs k. (k.2.0, ap (λ xs. Word w ∷ xs) (k.1 ∙ ap (λ tok. tok ∷ []) k.2.1), k.2.2)))
           (λ i ws y k Hy. read ws (subst (λ vs. Asks s0 S known (codes "fpure") (questions.PureAt j i) vs) (sym k.1) (grammar.fpure_at h k.2)) Hy)
@@ -236,7 +213,7 @@ module _ (s0 : State) (S : Session) (known : Contains primes S.prime) where
       → Reading s0 (behind_lines (Some S)) (λ e. e) (λ q us. IsQuestion S us q) (Word (codes "ask") ∷ []) (question.question_at S t)
   unfolding question.question_at
   question_reading t H =
-      then_reading s0 (behind_lines (Some S)) (λ e. e) _ (word_reading s0 (behind_lines (Some S)) (Word (codes "ask") ∷ []) t H (ask_goes s0 S known [] (λ n. (Word (codes "basis") ∷ Word (fresh (n + 2)) ∷ [], _, grammar.basis (some_ideal S n)))))
+      then_reading s0 (behind_lines (Some S)) (λ e. e) _ (word_reading s0 (behind_lines (Some S)) (Word (codes "ask") ∷ []) t H.reached (ask_goes s0 S known [] (λ n. (Word (codes "basis") ∷ Word (fresh (n + 2)) ∷ [], _, grammar.basis (some_ideal S n)))))
       (λ w us u e Hu. by w us e u Hu (question.ask_of w) refl)
     where
       by : (w : List ℕ) (us : List Token) → us ≡ Word w ∷ [] → (u : State) → SoFar s0 (behind_lines (Some S)) (Word (codes "ask") ∷ us) u → (o : Option Ask) → question.ask_of w ≡ o

@@ -98,7 +98,7 @@ module _ (s0 : State) where
     where
       plain : Reading s0 (behind_lines None) (λ e. e) (λ p us. us ≡ Number p ∷ []) (Word (codes "ring") ∷ []) (rings.prime t)
       plain =
-          then_reading s0 (behind_lines None) (λ e. e) _ (number_reading s0 (behind_lines None) (Word (codes "ring") ∷ []) t H ring_begins)
+          then_reading s0 (behind_lines None) (λ e. e) _ (number_reading s0 (behind_lines None) (Word (codes "ring") ∷ []) t H.reached ring_begins)
           (λ n us u e Hu. reading_if s0 (behind_lines None) (λ e. e) (rings.is_prime n) _ _ (λ _. read us e Hu) (λ _. stuck (late s0 (behind_lines None) Hu (numbers_at s0 (behind_lines None) {ws = Word (codes "ring") ∷ []} Hu e (2, inr (inl ring_with_prime))))))
 
   module _ (p : ℕ) (known : Contains primes p) where
@@ -108,22 +108,22 @@ module _ (s0 : State) where
     variable_more vs us t l H =
         then_reading s0 (behind_lines None) (λ e. e) _
         (behind s0 (behind_lines None) (λ e. e) {Q = λ w ws. ws ≡ Word w ∷ []} {R = λ w ws. ws ≡ us ++ Sign comma ∷ Word w ∷ []} (Word (codes "ring") ∷ Number p ∷ []) (us ++ Sign comma ∷ []) _
-        (word_reading s0 (behind_lines None) (Word (codes "ring") ∷ Number p ∷ (us ++ Sign comma ∷ [])) t H (ring_comma p vs us known l)) (λ w ws e. ap (λ xs. (us ++ Sign comma ∷ []) ++ xs) e ∙ append_assoc us (Sign comma ∷ []) (Word w ∷ [])))
+        (word_reading s0 (behind_lines None) (Word (codes "ring") ∷ Number p ∷ (us ++ Sign comma ∷ [])) t H.reached (ring_comma p vs us known l)) (λ w ws e. ap (λ xs. (us ++ Sign comma ∷ []) ++ xs) e ∙ append_assoc us (Sign comma ∷ []) (Word w ∷ [])))
         (λ w ws u e Hu. reading_if s0 (behind_lines None) (λ e. e) (leb 7 (length vs)) _ _ (λ many. stuck (late s0 (behind_lines None) Hu (words_there ws w e Hu (w, inr (inr (eighth l (leb-true 7 (length vs) many)))))))
         (λ few. reading_if s0 (behind_lines None) (λ e. e) (is_some (place_of vs w)) _ _ (λ _. stuck (late s0 (behind_lines None) Hu (words_there ws w e Hu (other_word vs, inr (inl (variable_next p vs us known l (leb-false 7 (length vs) few)))))))
         (λ new. read ws (subst (Variables (vs ++ w ∷ [])) (sym e) (variables_more vs us w l (leb-false 7 (length vs) few) (λ i d inside. unlike w vs (nothing_found _ new) i d inside))) Hu)))
       where
         words_there : (ws : List Token) (w : List ℕ) {u : State} → ws ≡ us ++ Sign comma ∷ Word w ∷ [] → (Hu : SoFar s0 (behind_lines None) ((Word (codes "ring") ∷ Number p ∷ []) ++ ws) u)
-            → Words s0 (behind_lines None) (Word (codes "ring") ∷ Number p ∷ (us ++ Sign comma ∷ [])) → Words s0 (behind_lines None) (toks Hu.took.init)
+            → Words s0 (behind_lines None) (Word (codes "ring") ∷ Number p ∷ (us ++ Sign comma ∷ [])) → Words s0 (behind_lines None) (toks Hu.reached.init)
         words_there ws w e Hu =
             let split : (Word (codes "ring") ∷ Number p ∷ (us ++ Sign comma ∷ [])) ++ Word w ∷ [] ≡ (Word (codes "ring") ∷ Number p ∷ []) ++ ws = ap (λ vs. Word (codes "ring") ∷ Number p ∷ vs) (append_assoc us (Sign comma ∷ []) (Word w ∷ []) ∙ sym e) in
-            subst (Words s0 (behind_lines None)) (front_same (Word (codes "ring") ∷ Number p ∷ (us ++ Sign comma ∷ [])) (toks Hu.took.init) (Word w) Hu.took.last.token (split ∙ Hu.took.tokens))
+            subst (Words s0 (behind_lines None)) (front_same (Word (codes "ring") ∷ Number p ∷ (us ++ Sign comma ∷ [])) (toks Hu.reached.init) (Word w) Hu.reached.last.token (split ∙ Hu.reached.tokens))
 
     variable_first : (t : State) → SoFar s0 (behind_lines None) (Word (codes "ring") ∷ Number p ∷ []) t
         → Reading s0 (behind_lines None) (λ e. e) (λ w ws. Variables (w ∷ []) ws) (Word (codes "ring") ∷ Number p ∷ []) (rings.variable [] t)
     unfolding rings.variable
     variable_first t H =
-        then_reading s0 (behind_lines None) (λ e. e) _ (word_reading s0 (behind_lines None) (Word (codes "ring") ∷ Number p ∷ []) t H (prime_begins p known))
+        then_reading s0 (behind_lines None) (λ e. e) _ (word_reading s0 (behind_lines None) (Word (codes "ring") ∷ Number p ∷ []) t H.reached (prime_begins p known))
         (λ w ws u e Hu. read ws (subst (Variables (w ∷ [])) (sym e) (one_variable w)) Hu)
 
   ring_stopped : (t : State) → SoFar s0 (behind_lines None) (Word (codes "ring") ∷ []) t → IsStopped s0 (behind_lines None) (rings.ring t)
@@ -165,7 +165,7 @@ module _ (s0 : State) (S : Session) (known : Contains primes S.prime) (some_vari
   order_stopped : (t : State) → SoFar s0 (behind_lines (Some S)) (Word (codes "order") ∷ []) t → IsStopped s0 (behind_lines (Some S)) (statements.order S t)
   unfolding statements.order
   order_stopped t H =
-      stop_then s0 (behind_lines (Some S)) _ (word_reading s0 (behind_lines (Some S)) (Word (codes "order") ∷ []) t H (inl (bare S, bare_alike S _, Word (codes "lex") ∷ [], _, grammar.lex)))
+      stop_then s0 (behind_lines (Some S)) _ (word_reading s0 (behind_lines (Some S)) (Word (codes "order") ∷ []) t H.reached (inl (bare S, bare_alike S _, Word (codes "lex") ∷ [], _, grammar.lex)))
       (λ w us u e Hu. by w us e u Hu (statements.order_of w) refl)
     where
       by : (w : List ℕ) (us : List Token) → us ≡ Word w ∷ [] → (u : State) → SoFar s0 (behind_lines (Some S)) (Word (codes "order") ∷ us) u → (o : Option OrderName) → statements.order_of w ≡ o
@@ -177,7 +177,7 @@ module _ (s0 : State) (S : Session) (known : Contains primes S.prime) (some_vari
   budget_stopped : (t : State) → SoFar s0 (behind_lines (Some S)) (Word (codes "budget") ∷ []) t → IsStopped s0 (behind_lines (Some S)) (statements.budget S t)
   unfolding statements.budget
   budget_stopped t H =
-      stop_then s0 (behind_lines (Some S)) _ (within_reading s0 (behind_lines (Some S)) 1 10000000 (Word (codes "budget") ∷ []) t H (inl (bare S, bare_alike S _, Number 1 ∷ [], _, grammar.budget (omega arith) (omega arith)))
+      stop_then s0 (behind_lines (Some S)) _ (within_reading s0 (behind_lines (Some S)) 1 10000000 (Word (codes "budget") ∷ []) t H.reached (inl (bare S, bare_alike S _, Number 1 ∷ [], _, grammar.budget (omega arith) (omega arith)))
       (1, inr (inl (bare S, bare_alike S _, [], _, grammar.budget (omega arith) (omega arith)))))
       (λ n us u h Hu. stop_end s0 (behind_lines (Some S)) _ (Word (codes "budget") ∷ Number n ∷ []) u (subst (λ vs. SoFar s0 (behind_lines (Some S)) (Word (codes "budget") ∷ vs) u) h.0 Hu) (inl (bare S, bare_alike S _, [], _, grammar.budget h.1.0 h.1.1)))
 
@@ -225,7 +225,7 @@ statement_of_stopped s0 (Some S) h (Some k) w e t H = later_stopped s0 S h.0 h.1
 
 statement_stopped : (s0 : State) (before : Option Session) → IsUsual before → (p : Placed) (rest : List Placed) → s0.left ≡ p ∷ rest → IsStopped s0 (behind_lines before) (statements.statement before p.token (after p rest))
 unfolding statements.statement word_of
-statement_stopped s0 before h p rest e = by p.token (record { init = []; last = p; all = e; tokens = refl; start = refl; end = refl; goes_on = nothing_stands before h })
+statement_stopped s0 before h p rest e = by p.token (record { reached = record { init = []; last = p; all = e; tokens = refl; start = refl; end = refl }; goes_on = nothing_stands before h })
   where
     by : (tok : Token) → Took s0 (behind_lines before) (tok ∷ []) (after p rest) → IsStopped s0 (behind_lines before) (statements.statement before tok (after p rest))
     by (Word w) H = statement_of_stopped s0 before h (statements.keyword_of w) w refl (after p rest) (sound s0 (behind_lines before) [] (Word w) tt H)

@@ -68,7 +68,7 @@ module _ (s0 : State) (V : Sayings) where
     where
       by : (us : List Placed) → t.left ≡ us → IsStopped (option_map_or (λ _. Err (not_here t)) (next (record { left = us; start = t.start; end = t.end })) (Ok x))
       by [] e = tt
-      by (p ∷ rest) e = wrong_next s0 V H v
+      by (p ∷ rest) e = wrong_next s0 V H.reached v
 
   pub reading_with : {A : Type 0} {Q R : A → List Token → Type 0} (P : A × State → Type 0) {ts : List Token} (r : Answer A) → Reading s0 V (λ e. e) Q ts r → Yields P r → ((x : A) (u : State) (us : List Token) → Q x us → P (x, u) → R x us)
       → Reading s0 V (λ e. e) R ts r
@@ -82,8 +82,8 @@ module _ (s0 : State) (V : Sayings) where
   sign_reading {A} {Q} {ts} {ws} {t} b f H v each = by (after_sign b t) refl
     where
       by : (o : Option State) → after_sign b t ≡ o → Reading s0 V (λ e. e) Q ts (option_map_or (λ u. Ok u) o (Err (not_here t)) >>= f)
-      by None e = stuck (wrong_next s0 V H v)
-      by (Some u) e = each u (sign_taken s0 V b t u H v e)
+      by None e = stuck (wrong_next s0 V H.reached v)
+      by (Some u) e = each u (sign_taken s0 V b t u H.reached v e)
 
   -- ---- lists with commas
 
@@ -93,7 +93,7 @@ module _ (s0 : State) (V : Sayings) where
     unfolding more
     more_reading zero xs us t l H = read us l H
     more_reading (suc n) xs us t l H =
-        reading_sign s0 V (λ e. e) comma _ _ H (v xs us l)
+        reading_sign s0 V (λ e. e) comma _ _ H.reached (v xs us l)
         (λ u Hu. then_reading s0 V (λ e. e) _ (each xs us u l (subst (λ ws. SoFar s0 V ws u) (append_assoc ts us (Sign comma ∷ [])) Hu)) (λ x ws w k Hw. more_reading n (xs ++ x ∷ []) ws w k Hw))
         (read us l H)
 
@@ -182,7 +182,7 @@ module _ (s0 : State) (S : Session) (known : Contains primes S.prime) (some_vari
     where
       plain : Reading s0 (behind_lines (Some S)) (λ e. e) (λ name us. us ≡ Word name ∷ []) (Word kw ∷ []) (names.new_name S t)
       plain =
-          then_reading s0 (behind_lines (Some S)) (λ e. e) _ (word_reading s0 (behind_lines (Some S)) (Word kw ∷ []) t H v)
+          then_reading s0 (behind_lines (Some S)) (λ e. e) _ (word_reading s0 (behind_lines (Some S)) (Word kw ∷ []) t H.reached v)
           (λ w us u e Hu. reading_if s0 (behind_lines (Some S)) (λ e. e) (names.is_variable S w || is_some (place_of (names.declared_names S.values) w)) _ _ (λ _. stuck (late s0 (behind_lines (Some S)) Hu (words_at s0 (behind_lines (Some S)) Hu e k)))
           (λ new. reading_if s0 (behind_lines (Some S)) (λ e. e) (leb 4096 (length S.values)) _ _
           (λ full. let none = new_word S w new in stuck (too_many s0 (behind_lines (Some S)) Hu (subst (λ vs. AreTooMany S (Word kw ∷ vs)) (sym e) (rank.names declares none.0 none.1 (leb-true 4096 (length S.values) full)))))
@@ -345,12 +345,12 @@ module _ (s0 : State) (S : Session) (known : Contains primes S.prime) (some_vari
       let here : MayStand (Some S) ws = subst (MayStand (Some S)) (append-nil ws) (K [] coordinate_default) in
       let number : Numbers s0 (behind_lines (Some S)) ws = (0, inl (K (Number 0 ∷ []) ([], 0 % S.prime, grammar.number (omega arith)))) in
       let negative : Numbers s0 (behind_lines (Some S)) (ws ++ Sign minus ∷ []) = (0, inl (subst (MayStand (Some S)) (sym (append_assoc ws (Sign minus ∷ []) (Number 0 ∷ []))) (K (Sign minus ∷ Number 0 ∷ []) ([], _, grammar.negative (omega arith))))) in
-      reading_sign s0 (behind_lines (Some S)) (λ e. e) minus _ _ H here
+      reading_sign s0 (behind_lines (Some S)) (λ e. e) minus _ _ H.reached here
       (λ u Hu. then_reading s0 (behind_lines (Some S)) (λ e. e) _
       (behind s0 (behind_lines (Some S)) (λ e. e) {R = λ n us. (us ≡ Sign minus ∷ Number n ∷ []) × (n < 2 ^ 32)} ws (Sign minus ∷ []) (narrow u)
-      (narrow_reading s0 (behind_lines (Some S)) (ws ++ Sign minus ∷ []) u Hu (K (Sign minus ∷ []) (Number 0 ∷ [], _, grammar.negative (omega arith))) negative) (λ n vs k. (ap (λ xs. Sign minus ∷ xs) k.0, k.1)))
+      (narrow_reading s0 (behind_lines (Some S)) (ws ++ Sign minus ∷ []) u Hu.reached (K (Sign minus ∷ []) (Number 0 ∷ [], _, grammar.negative (omega arith))) negative) (λ n vs k. (ap (λ xs. Sign minus ∷ xs) k.0, k.1)))
       (λ n us w h Hw. read us (subst (λ vs. IsCoordinate S.prime vs ((S.prime - n % S.prime) % S.prime)) (sym h.0) (grammar.negative h.1)) Hw))
-      (then_reading s0 (behind_lines (Some S)) (λ e. e) _ (narrow_reading s0 (behind_lines (Some S)) ws t H here number) (λ n us w h Hw. read us (subst (λ vs. IsCoordinate S.prime vs (n % S.prime)) (sym h.0) (grammar.number h.1)) Hw))
+      (then_reading s0 (behind_lines (Some S)) (λ e. e) _ (narrow_reading s0 (behind_lines (Some S)) ws t H.reached here number) (λ n us w h Hw. read us (subst (λ vs. IsCoordinate S.prime vs (n % S.prime)) (sym h.0) (grammar.number h.1)) Hw))
 
   -- with zeros behind them there is a coordinate for each variable
   fill : (k : ℕ) (cs : List ℕ) (us : List Token) → AreListed (IsCoordinate S.prime) us cs → length cs + k ≡ length S.variables → (rest : List Token) × (ds : List ℕ) × AreListed (IsCoordinate S.prime) (us ++ rest) ds × (length ds ≡ length S.variables)

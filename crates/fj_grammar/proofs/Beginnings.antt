@@ -79,24 +79,64 @@ pub record Sayings : Type 1 where
   pub Many : List Token → Type 0
 
 -- A line was read from the state s0 on.
-module _ (s0 : State) (V : Sayings) where
-  -- These tokens were taken so far, and before the last one they could go on.
-  pub record Took (ts : List Token) (t : State) : Type 0 where
+module _ (s0 : State) where
+  -- These tokens were taken so far.
+  pub record Reached (ts : List Token) (t : State) : Type 0 where
     pub init : List Placed
     pub last : Placed
     pub all : s0.left ≡ init ++ last ∷ t.left
     pub tokens : ts ≡ toks init ++ last.token ∷ []
     pub start : t.start ≡ last.start
     pub end : t.end ≡ last.end
-    pub goes_on : V.Goes (toks init)
+
+  tokens_all : {ts : List Token} {t : State} (H : Reached ts t) → ts ≡ toks (H.init ++ H.last ∷ [])
+  tokens_all H = H.tokens ∙ sym (map-append (λ (t : Placed). t.token) H.init (H.last ∷ []))
+
+  all_left : {ts : List Token} {t : State} (H : Reached ts t) → s0.left ≡ (H.init ++ H.last ∷ []) ++ t.left
+  all_left {ts} {t} H = H.all ∙ sym (append_assoc H.init (H.last ∷ []) t.left)
+
+  abbrev next_reached : {ts : List Token} {t : State} → Reached ts t → (p : Placed) (rest : List Placed) → t.left ≡ p ∷ rest → Reached (ts ++ p.token ∷ []) (after p rest)
+  next_reached H p rest e = record {
+    init = H.init ++ H.last ∷ [];
+    last = p;
+    all = all_left H ∙ ap (λ us. (H.init ++ H.last ∷ []) ++ us) e;
+    tokens = ap (λ us. us ++ p.token ∷ []) (tokens_all H);
+    start = refl;
+    end = refl;
+  }
+
+  pub sign_reached : {ws : List Token} (b : ℕ) (t u : State) → Reached ws t → after_sign b t ≡ Some u → Reached (ws ++ Sign b ∷ []) u
+  unfolding after_sign next
+  sign_reached {ws} b t u H is = by t.left refl is
+    where
+      test : (p : Placed) (rest : List Placed) (tok : Token) → Reached (ws ++ tok ∷ []) (after p rest) → cond (is_the_sign b tok) (Some (after p rest)) None ≡ Some u → Reached (ws ++ Sign b ∷ []) u
+      test p rest (Word w) K e = absurd cc
+      test p rest (Number n) K e = absurd cc
+      test p rest BadByte K e = absurd cc
+      test p rest (Sign s) K e = at (eqb s b) refl e
+        where
+          at : (c : Bool) → eqb s b ≡ c → cond c (Some (after p rest)) None ≡ Some u → Reached (ws ++ Sign b ∷ []) u
+          at true same h = subst (Reached (ws ++ Sign b ∷ [])) (same_Some _ _ h) (subst (λ n. Reached (ws ++ Sign n ∷ []) (after p rest)) (eqb-true s b same) K)
+          at false same h = absurd cc
+
+      by : (us : List Placed) → t.left ≡ us → after_sign b (record { left = us; start = t.start; end = t.end }) ≡ Some u → Reached (ws ++ Sign b ∷ []) u
+      by [] e h = absurd cc
+      by (p ∷ rest) e h = test p rest p.token (next_reached H p rest e) h
+
+module _ (s0 : State) (V : Sayings) where
+  -- Before the last of these tokens they could go on.
+  pub record Took (ts : List Token) (t : State) : Type 0 where
+    pub reached : Reached s0 ts t
+    pub goes_on : V.Goes (toks reached.init)
 
   -- The same, and the last one is no bad byte.
   pub record SoFar (ts : List Token) (t : State) : Type 0 where
-    pub took : Took ts t
-    pub sound : IsSound took.last.token
+    pub reached : Reached s0 ts t
+    pub goes_on : V.Goes (toks reached.init)
+    pub sound : IsSound reached.last.token
 
   pub sound : (ts : List Token) (tok : Token) {t : State} → IsSound tok → Took (ts ++ tok ∷ []) t → SoFar (ts ++ tok ∷ []) t
-  sound ts tok is H = record { took = H; sound = subst IsSound (last_same ts (toks H.init) tok H.last.token H.tokens) is }
+  sound ts tok is H = record { reached = H.reached; goes_on = H.goes_on; sound = subst IsSound (last_same ts (toks H.reached.init) tok H.reached.last.token H.reached.tokens) is }
 
   -- Tokens can go on with a number, or with a word.
   abbrev pub Numbers : List Token → Type 0
@@ -145,38 +185,32 @@ module _ (s0 : State) (V : Sayings) where
     stuck : {e : E} → Stuck (fault e) → Reading fault Q ts (Err e)
 
   -- a fault at the token that was taken last
-  pub late : {k : FaultKind} {ts : List Token} {t : State} (H : SoFar ts t) → Fits k (toks H.took.init) (H.took.last.token ∷ toks t.left) → Stuck (record { kind = k; column = t.start })
-  late {k} {ts} {t} H fits = record { before = H.took.init; rest = H.took.last ∷ t.left; all = H.took.all; at = H.took.start; goes_on = H.took.goes_on; fits = fits; blames = sound_blames k H.took.last t.left H.sound }
+  pub late : {k : FaultKind} {ts : List Token} {t : State} (H : SoFar ts t) → Fits k (toks H.reached.init) (H.reached.last.token ∷ toks t.left) → Stuck (record { kind = k; column = t.start })
+  late {k} {ts} {t} H fits = record { before = H.reached.init; rest = H.reached.last ∷ t.left; all = H.reached.all; at = H.reached.start; goes_on = H.goes_on; fits = fits; blames = sound_blames k H.reached.last t.left H.sound }
 
   -- the same, where it may not stand
   pub wrong_token : (ts : List Token) (tok : Token) {t : State} → Took (ts ++ tok ∷ []) t → Stuck (record { kind = kind_of (blame tok); column = t.start })
   wrong_token ts tok {t} H = record {
-    before = H.init;
-    rest = H.last ∷ t.left;
-    all = H.all;
-    at = H.start;
+    before = H.reached.init;
+    rest = H.reached.last ∷ t.left;
+    all = H.reached.all;
+    at = H.reached.start;
     goes_on = H.goes_on;
-    fits = blame_fits tok (toks H.init) (H.last.token ∷ toks t.left);
-    blames = λ e. blame_is tok (last_same ts (toks H.init) tok H.last.token H.tokens ∙ e);
+    fits = blame_fits tok (toks H.reached.init) (H.reached.last.token ∷ toks t.left);
+    blames = λ e. blame_is tok (last_same ts (toks H.reached.init) tok H.reached.last.token H.reached.tokens ∙ e);
   }
 
   -- before a number, and before a word
-  pub numbers_at : {ws us : List Token} {n : ℕ} {u : State} (H : SoFar (ws ++ us) u) → us ≡ Number n ∷ [] → Numbers ws → Numbers (toks H.took.init)
-  numbers_at {ws} {us} {n} H e k = subst Numbers (front_same ws (toks H.took.init) (Number n) H.took.last.token (ap (λ vs. ws ++ vs) (sym e) ∙ H.took.tokens)) k
+  pub numbers_at : {ws us : List Token} {n : ℕ} {u : State} (H : SoFar (ws ++ us) u) → us ≡ Number n ∷ [] → Numbers ws → Numbers (toks H.reached.init)
+  numbers_at {ws} {us} {n} H e k = subst Numbers (front_same ws (toks H.reached.init) (Number n) H.reached.last.token (ap (λ vs. ws ++ vs) (sym e) ∙ H.reached.tokens)) k
 
-  pub words_at : {ws us : List Token} {w : List ℕ} {u : State} (H : SoFar (ws ++ us) u) → us ≡ Word w ∷ [] → Words ws → Words (toks H.took.init)
-  words_at {ws} {us} {w} H e k = subst Words (front_same ws (toks H.took.init) (Word w) H.took.last.token (ap (λ vs. ws ++ vs) (sym e) ∙ H.took.tokens)) k
+  pub words_at : {ws us : List Token} {w : List ℕ} {u : State} (H : SoFar (ws ++ us) u) → us ≡ Word w ∷ [] → Words ws → Words (toks H.reached.init)
+  words_at {ws} {us} {w} H e k = subst Words (front_same ws (toks H.reached.init) (Word w) H.reached.last.token (ap (λ vs. ws ++ vs) (sym e) ∙ H.reached.tokens)) k
 
   pub too_many : {ts : List Token} {t : State} → SoFar ts t → V.Many ts → Stuck (record { kind = kinds.Many; column = t.start })
-  too_many {ts} {t} H many = late H (H.took.last.token, toks t.left, refl, subst V.Many H.took.tokens many)
+  too_many {ts} {t} H many = late H (H.reached.last.token, toks t.left, refl, subst V.Many H.reached.tokens many)
 
-  pub tokens_all : {ts : List Token} {t : State} (H : Took ts t) → ts ≡ toks (H.init ++ H.last ∷ [])
-  tokens_all H = H.tokens ∙ sym (map-append (λ (t : Placed). t.token) H.init (H.last ∷ []))
-
-  pub all_left : {ts : List Token} {t : State} (H : Took ts t) → s0.left ≡ (H.init ++ H.last ∷ []) ++ t.left
-  all_left {ts} {t} H = H.all ∙ sym (append_assoc H.init (H.last ∷ []) t.left)
-
-  pub unexpected_fits : (ts : List Token) (t : State) → Fits (fault_of (unexpected t)).kind ts (toks t.left)
+  unexpected_fits : (ts : List Token) (t : State) → Fits (fault_of (unexpected t)).kind ts (toks t.left)
   unfolding unexpected
   unexpected_fits ts t = by t.left
     where
@@ -184,56 +218,34 @@ module _ (s0 : State) (V : Sayings) where
       by [] = tt
       by (u ∷ us) = blame_fits u.token ts (toks (u ∷ us))
 
-  pub wrong_next : {ts : List Token} {t : State} → SoFar ts t → V.Goes ts → Stuck (fault_of (unexpected t))
+  -- a fault at the next token, or behind the last one
+  pub wrong_next : {ts : List Token} {t : State} → Reached s0 ts t → V.Goes ts → Stuck (fault_of (unexpected t))
   unfolding unexpected
   wrong_next {ts} {t} H v = record {
-    before = H.took.init ++ H.took.last ∷ [];
+    before = H.init ++ H.last ∷ [];
     rest = t.left;
-    all = all_left H.took;
+    all = all_left s0 H;
     at = by t.left;
-    goes_on = subst V.Goes (tokens_all H.took) v;
-    fits = unexpected_fits (toks (H.took.init ++ H.took.last ∷ [])) t;
+    goes_on = subst V.Goes (tokens_all s0 H) v;
+    fits = unexpected_fits (toks (H.init ++ H.last ∷ [])) t;
     blames = unexpected_blames t;
   }
     where
-      by : (us : List Placed) → StandsAt (unexpected (record { left = us; start = t.start; end = t.end })).place us (end_of (H.took.init ++ H.took.last ∷ []) s0.end)
-      by [] = H.took.end ∙ sym (end_last H.took.init H.took.last s0.end)
+      by : (us : List Placed) → StandsAt (unexpected (record { left = us; start = t.start; end = t.end })).place us (end_of (H.init ++ H.last ∷ []) s0.end)
+      by [] = H.end ∙ sym (end_last H.init H.last s0.end)
       by (u ∷ us) = refl
 
-  pub taken : {ts : List Token} {t : State} → SoFar ts t → V.Goes ts → (p : Placed) (rest : List Placed) → t.left ≡ p ∷ rest → Took (ts ++ p.token ∷ []) (after p rest)
-  taken H v p rest e = record {
-    init = H.took.init ++ H.took.last ∷ [];
-    last = p;
-    all = all_left H.took ∙ ap (λ us. (H.took.init ++ H.took.last ∷ []) ++ us) e;
-    tokens = ap (λ us. us ++ p.token ∷ []) (tokens_all H.took);
-    start = refl;
-    end = refl;
-    goes_on = subst V.Goes (tokens_all H.took) v;
-  }
+  pub taken : {ts : List Token} {t : State} → Reached s0 ts t → V.Goes ts → (p : Placed) (rest : List Placed) → t.left ≡ p ∷ rest → Took (ts ++ p.token ∷ []) (after p rest)
+  taken H v p rest e = record { reached = next_reached s0 H p rest e; goes_on = subst V.Goes (tokens_all s0 H) v }
 
   pub regrouped : (ts us vs : List Token) {t : State} → SoFar ((ts ++ us) ++ vs) t → SoFar (ts ++ (us ++ vs)) t
   regrouped ts us vs {t} H = subst (λ ws. SoFar ws t) (append_assoc ts us vs) H
 
-  pub ungrouped : (ts us vs : List Token) {t : State} → SoFar (ts ++ (us ++ vs)) t → SoFar ((ts ++ us) ++ vs) t
-  ungrouped ts us vs {t} H = subst (λ ws. SoFar ws t) (sym (append_assoc ts us vs)) H
-
-  pub sign_taken : {ws : List Token} (b : ℕ) (t u : State) → SoFar ws t → V.Goes ws → after_sign b t ≡ Some u → SoFar (ws ++ Sign b ∷ []) u
-  unfolding after_sign next
-  sign_taken {ws} b t u H v is = by t.left refl is
-    where
-      test : (p : Placed) (rest : List Placed) (tok : Token) → Took (ws ++ tok ∷ []) (after p rest) → cond (is_the_sign b tok) (Some (after p rest)) None ≡ Some u → SoFar (ws ++ Sign b ∷ []) u
-      test p rest (Word w) K e = absurd cc
-      test p rest (Number n) K e = absurd cc
-      test p rest BadByte K e = absurd cc
-      test p rest (Sign s) K e = at (eqb s b) refl e
-        where
-          at : (c : Bool) → eqb s b ≡ c → cond c (Some (after p rest)) None ≡ Some u → SoFar (ws ++ Sign b ∷ []) u
-          at true same h = subst (SoFar (ws ++ Sign b ∷ [])) (same_Some _ _ h) (subst (λ n. SoFar (ws ++ Sign n ∷ []) (after p rest)) (eqb-true s b same) (sound ws (Sign s) tt K))
-          at false same h = absurd cc
-
-      by : (us : List Placed) → t.left ≡ us → after_sign b (record { left = us; start = t.start; end = t.end }) ≡ Some u → SoFar (ws ++ Sign b ∷ []) u
-      by [] e h = absurd cc
-      by (p ∷ rest) e h = test p rest p.token (taken H v p rest e) h
+  pub sign_taken : {ws : List Token} (b : ℕ) (t u : State) → Reached s0 ws t → V.Goes ws → after_sign b t ≡ Some u → SoFar (ws ++ Sign b ∷ []) u
+  sign_taken {ws} b t u H v is =
+      let K = sign_reached s0 b t u H is in
+      let goes = subst V.Goes (front_same ws (toks K.init) (Sign b) K.last.token K.tokens) v in
+      sound ws (Sign b) tt (record { reached = K; goes_on = goes })
 
   module _ {E : Type 0} (fault : E → LineFault) where
     -- what was read behind more tokens
@@ -251,7 +263,7 @@ module _ (s0 : State) (V : Sayings) where
     reading_if false x y p q = q refl
 
     -- the next token
-    pub reading_next : {A : Type 0} {Q : A → List Token → Type 0} {ts ws : List Token} {t : State} (f : Token × State → Result (A × State) E) (wrong : E) → fault wrong ≡ fault_of (unexpected t) → SoFar ws t → V.Goes ws
+    pub reading_next : {A : Type 0} {Q : A → List Token → Type 0} {ts ws : List Token} {t : State} (f : Token × State → Result (A × State) E) (wrong : E) → fault wrong ≡ fault_of (unexpected t) → Reached s0 ws t → V.Goes ws
         → ((tok : Token) (u : State) → Took (ws ++ tok ∷ []) u → Reading fault Q ts (f (tok, u))) → Reading fault Q ts (option_map_or f (next t) (Err wrong))
     unfolding next
     reading_next {A} {Q} {ts} {ws} {t} f wrong is H v each = by t.left refl
@@ -261,7 +273,7 @@ module _ (s0 : State) (V : Sayings) where
         by (p ∷ rest) e = each p.token (after p rest) (taken H v p rest e)
 
     -- a sign, where it is next
-    pub reading_sign : {A : Type 0} {Q : A → List Token → Type 0} {ts ws : List Token} {t : State} (b : ℕ) (f : State → Result (A × State) E) (d : Result (A × State) E) → SoFar ws t → V.Goes ws
+    pub reading_sign : {A : Type 0} {Q : A → List Token → Type 0} {ts ws : List Token} {t : State} (b : ℕ) (f : State → Result (A × State) E) (d : Result (A × State) E) → Reached s0 ws t → V.Goes ws
         → ((u : State) → SoFar (ws ++ Sign b ∷ []) u → Reading fault Q ts (f u)) → Reading fault Q ts d → Reading fault Q ts (option_map_or f (after_sign b t) d)
     reading_sign {A} {Q} {ts} {ws} {t} b f d H v some none = by (after_sign b t) refl
       where
@@ -406,7 +418,7 @@ module _ {F : Field} (L : IsField F) (meaning : List ℕ → Meaning) where
       atom_reading : (ts : List Token) (t : State) → SoFar s0 V ts t → ((us : List Token) → GoesOnFactor d us → V.Goes (ts ++ us))
           → Reading s0 V fault_of (Atom d) ts (text.atom F meaning (text.parenthesised F meaning d) t)
       unfolding text.atom text.atom_of text.constant text.variable
-      atom_reading ts t H K = reading_next s0 V fault_of (λ t. text.atom_of F meaning (text.parenthesised F meaning d) t.0 t.1) (unexpected t) refl H (at_once ts (K [] (factor_default d))) each
+      atom_reading ts t H K = reading_next s0 V fault_of (λ t. text.atom_of F meaning (text.parenthesised F meaning d) t.0 t.1) (unexpected t) refl H.reached (at_once ts (K [] (factor_default d))) each
         where
           a_number : Numbers s0 V ts
           a_number = (0, inl (K (Number 0 ∷ []) (atom_ends d (Number 0 ∷ []) (term (0 % F.characteristic) origin) (grammar.number (omega arith), fine_constant L 0))))
@@ -436,7 +448,7 @@ module _ {F : Field} (L : IsField F) (meaning : List ℕ → Meaning) where
       unfolding text.factor text.exponent_of
       factor_reading ts t H K =
           then_reading s0 V fault_of _ (atom_reading ts t H K)
-          (λ f us u h Hu. reading_sign s0 V fault_of caret _ _ Hu (K us (atom_ends d us f h)) (λ v Hv. raised f us h v (regrouped s0 V ts us (Sign caret ∷ []) Hv)) (read us (grammar.atom h.0, h.1) Hu))
+          (λ f us u h Hu. reading_sign s0 V fault_of caret _ _ Hu.reached (K us (atom_ends d us f h)) (λ v Hv. raised f us h v (regrouped s0 V ts us (Sign caret ∷ []) Hv)) (read us (grammar.atom h.0, h.1) Hu))
         where
           Exponent : List Token → ℕ → List Token → Type 0
           Exponent us k vs = (vs ≡ us ++ Sign caret ∷ Number k ∷ []) × (k ≤ 1000)
@@ -461,7 +473,7 @@ module _ {F : Field} (L : IsField F) (meaning : List ℕ → Meaning) where
               → Reading s0 V fault_of (Factor d) ts (option_map_or (λ t. text.exponent_of t.0 t.1) (next v) (Err (unexpected v)) >>= λ k. text.formed (text.power_within F f k.0) k.1)
           raised f us h v Hv =
               then_reading s0 V fault_of (λ k. text.formed (text.power_within F f k.0) k.1)
-              (reading_next s0 V fault_of {Q = Exponent us} {ts = ts} (λ t. text.exponent_of t.0 t.1) (unexpected v) refl Hv (K (us ++ Sign caret ∷ []) (atom_raised d us f h)) (exponent f us h))
+              (reading_next s0 V fault_of {Q = Exponent us} {ts = ts} (λ t. text.exponent_of t.0 t.1) (unexpected v) refl Hv.reached (K (us ++ Sign caret ∷ []) (atom_raised d us f h)) (exponent f us h))
               (λ k vs w q Hw. formed_reading s0 V ts vs (text.power_within F f k) w Hw
               (λ g e. let p = power-small L h.1.polynomial k g e in
               subst (λ ws. Factor d g ws) (sym q.0) (subst (λ y. Factor d y (us ++ Sign caret ∷ Number k ∷ [])) (sym p.0) (grammar.raised h.0 q.1 p.1, fine_power f h.1 k p.1))))
@@ -480,7 +492,7 @@ module _ {F : Field} (L : IsField F) (meaning : List ℕ → Meaning) where
           by : (o : Option State) → after_sign star t ≡ o → option_map turn o ≡ Some r → Reading s0 V fault_of (Term d) ts r
           by None is h = absurd cc
           by (Some v) is h =
-              let Hv = regrouped s0 V ts us (Sign star ∷ []) (sign_taken s0 V star t v H (K us (term_ends d us x w)) is) in
+              let Hv = regrouped s0 V ts us (Sign star ∷ []) (sign_taken s0 V star t v H.reached (K us (term_ends d us x w)) is) in
               let factor = factor_reading (ts ++ (us ++ Sign star ∷ [])) v Hv (λ vs g. behind_more ts us vs (Sign star) (K (us ++ Sign star ∷ vs) (term_goes d us vs x w g))) in
               let whole = behind s0 V fault_of {Q = Factor d} {R = Behind} ts (us ++ Sign star ∷ []) _ factor (λ g vs k. (vs, append_assoc us (Sign star ∷ []) vs, k)) in
               subst (Reading s0 V fault_of (Term d) ts) (same_Some _ _ h)
@@ -500,7 +512,7 @@ module _ {F : Field} (L : IsField F) (meaning : List ℕ → Meaning) where
           → Reading s0 V fault_of (Whole d) ts (text.first_term F meaning (text.parenthesised F meaning d) t)
       unfolding text.first_term
       first_reading ts t H K =
-          reading_sign s0 V fault_of minus _ _ H (at_once ts (K [] (expression_of_term d [] (term_of_factor d [] (factor_default d)))))
+          reading_sign s0 V fault_of minus _ _ H.reached (at_once ts (K [] (expression_of_term d [] (term_of_factor d [] (factor_default d)))))
           (λ u Hu. then_reading s0 V fault_of (λ f. Ok (negation F f.0, f.1))
           (behind s0 V fault_of {Q = Term d} {R = Negative} ts (Sign minus ∷ []) _ (term_reading (ts ++ Sign minus ∷ []) u Hu (λ us g. behind_one ts us (Sign minus) (K (Sign minus ∷ us) (expression_of_minus d us g)))) (λ f vs h. (vs, refl, h)))
           (λ f ws v k Hv. read ws (subst (Whole d (negation F f)) (sym k.1) (grammar.negative k.2.0, fine_negation L k.2.1)) Hv))
@@ -531,7 +543,7 @@ module _ {F : Field} (L : IsField F) (meaning : List ℕ → Meaning) where
           behind_sign : (sgn : ℕ) (v : State) → after_sign sgn t ≡ Some v → ((vs : List Token) → GoesOnTerm d vs → V.Goes (ts ++ (us ++ Sign sgn ∷ vs)))
               → Reading s0 V fault_of (Behind sgn) ts (text.term_at F meaning (text.parenthesised F meaning d) v)
           behind_sign sgn v is goes =
-              let Hv = regrouped s0 V ts us (Sign sgn ∷ []) (sign_taken s0 V sgn t v H (K us (expression_ends d us x w)) is) in
+              let Hv = regrouped s0 V ts us (Sign sgn ∷ []) (sign_taken s0 V sgn t v H.reached (K us (expression_ends d us x w)) is) in
               behind s0 V fault_of {Q = Term d} {R = Behind sgn} ts (us ++ Sign sgn ∷ []) _ (term_reading (ts ++ (us ++ Sign sgn ∷ [])) v Hv (λ vs g. behind_more ts us vs (Sign sgn) (goes vs g)))
               (λ g vs k. (vs, append_assoc us (Sign sgn ∷ []) vs, k))
 
@@ -563,8 +575,8 @@ module _ {F : Field} (L : IsField F) (meaning : List ℕ → Meaning) where
     inside_reading (suc d) ts u H K =
         then_reading s0 V fault_of _ (sum_reading d (inside_reading d) ts u H (λ us g. K us (inside_goes d us g)))
         (λ f us v h Hv. let here = K us (inside_goes d us (expression_ends d us f h)) in
-        reading_sign s0 V fault_of closing _ _ Hv here
-        (λ x Hx. read (us ++ Sign closing ∷ []) (grammar.parentheses h.0, h.1) (regrouped s0 V ts us (Sign closing ∷ []) Hx)) (stuck (wrong_next s0 V Hv here)))
+        reading_sign s0 V fault_of closing _ _ Hv.reached here
+        (λ x Hx. read (us ++ Sign closing ∷ []) (grammar.parentheses h.0, h.1) (regrouped s0 V ts us (Sign closing ∷ []) Hx)) (stuck (wrong_next s0 V Hv.reached here)))
 
     pub expression_reading : (ts : List Token) (t : State) → SoFar s0 V ts t → ((us : List Token) → GoesOn 64 us → V.Goes (ts ++ us)) → Reading s0 V fault_of (Whole 64) ts (text.expression F meaning t)
     unfolding text.expression
