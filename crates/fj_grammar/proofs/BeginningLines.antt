@@ -22,7 +22,7 @@ use Rattle.fj_script.specs.Question as question
 use Rattle.fj_script.specs.Question.{Target}
 use Rattle.fj_grammar.specs.Rank.{AreTooMany}
 use Rattle.fj_script.specs.Session.{Session, Value, ask, kind}
-use Rattle.fj_grammar.proofs.Beginnings.{Fits, Numbers, Reached, Reading, Sayings, SoFar, Took, Words, behind, late, numbers_at, read, reading_if, reading_next, sound, stuck, then_reading, toks, words_at, wrong_token}
+use Rattle.fj_grammar.proofs.Beginnings.{Fits, Numbers, Reached, Reading, Sayings, SoFar, Took, Words, behind, late, number_narrow, numbers_at, read, reading_if, reading_next, sound, stuck, then_reading, toks, words_at, wrong_token}
 use Rattle.fj_grammar.proofs.Continuations.{fresh, longest, some_ideal, some_level, some_nonconstant, some_polynomial, wide, wide_alike, wide_ideal, wide_nonconstant, wide_point, wide_polynomial}
 use Rattle.fj_grammar.proofs.GrammarPieces.{Declares, as_ideal, as_nonconstant, as_point, as_polynomial, declared_at, neither, not_zero}
 
@@ -37,8 +37,12 @@ abbrev pub AreMany : Option Session → List Token → Type 0
 AreMany None ts = ⊥
 AreMany (Some S) ts = AreTooMany S ts
 
+abbrev Ringed : Option Session → Type 0
+Ringed None = ⊥
+Ringed (Some S) = Unit {0}
+
 abbrev pub behind_lines : Option Session → Sayings
-behind_lines before = record { Goes = MayStand before; Next = MayFollow before; Many = AreMany before }
+behind_lines before = record { HasRing = Ringed before; Goes = MayStand before; Next = MayFollow before; Many = AreMany before }
 
 module _ (s0 : State) (V : Sayings) where
   -- A rule that takes a token first, where the tokens before it can go on.
@@ -81,7 +85,7 @@ module _ (s0 : State) (V : Sayings) where
   unfolding numbers.within
   within_reading low high ws t H v k =
       then_reading s0 V (λ e. e) _ (narrow_reading ws t H v k)
-      (λ n us u e Hu. reading_if s0 V (λ e. e) (ltb n low || ltb high n) _ _ (λ _. stuck (late s0 V Hu (numbers_at s0 V Hu e.0 k)))
+      (λ n us u e Hu. reading_if s0 V (λ e. e) (ltb n low || ltb high n) _ _ (λ _. stuck (late s0 V Hu (numbers_at s0 V Hu e.0 k, number_narrow s0 V ws Hu e.0 e.1)))
       (λ f. let both = neither (ltb n low) (ltb high n) f in read us (e.0, (ltb-false n low both.0, ltb-false high n both.1)) Hu))
 
   -- An argument that is one token, in each session.
@@ -106,7 +110,7 @@ module _ (s0 : State) (V : Sayings) where
   unfolding numbers.level
   level_reading p ws t H v k =
       then_reading s0 V (λ e. e) _ (narrow_reading ws t H v k)
-      (λ n us u e Hu. reading_if s0 V (λ e. e) (eqb n 0 || ltb 65536 (p ^ n)) _ _ (λ _. stuck (late s0 V Hu (numbers_at s0 V Hu e.0 k)))
+      (λ n us u e Hu. reading_if s0 V (λ e. e) (eqb n 0 || ltb 65536 (p ^ n)) _ _ (λ _. stuck (late s0 V Hu (numbers_at s0 V Hu e.0 k, number_narrow s0 V ws Hu e.0 e.1)))
       (λ f. let both = neither (eqb n 0) (ltb 65536 (p ^ n)) f in read us (Number n, e.0, (tt, refl, record { above_zero = not_zero n both.0; low = ltb-false 65536 (p ^ n) both.1 })) Hu))
 
   module _ (S : Session) where
@@ -263,7 +267,7 @@ module _ (s0 : State) (S : Session) (known : Contains primes S.prime) where
     Here = λ e p. e ≤ 12;
     Wide = λ n e p. e ≤ 12;
     Next = Numbers s0 (behind_lines (Some S));
-    follows = λ ts e p h. (e, inr h);
+    follows = λ ts e p h. (tt, e, inr h);
     lift = λ n e p h. h;
     default = λ n. (0, tt, omega arith);
     reads = exponent_reading s0 (behind_lines (Some S));
@@ -277,7 +281,7 @@ module _ (s0 : State) (S : Session) (known : Contains primes S.prime) where
     Here = λ e p. IsLevel S.prime e;
     Wide = λ n e p. IsLevel S.prime e;
     Next = Numbers s0 (behind_lines (Some S));
-    follows = λ ts e p h. (e, inr h);
+    follows = λ ts e p h. (tt, e, inr h);
     lift = λ n e p h. h;
     default = λ n. (1, tt, some_level S.prime known);
     reads = level_reading s0 (behind_lines (Some S)) S.prime;

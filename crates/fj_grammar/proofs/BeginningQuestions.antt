@@ -26,16 +26,17 @@ use Rattle.fj_script.specs.Question as question
 use Rattle.fj_script.specs.Question.{Target}
 use Rattle.fj_script.specs.Session.{Session}
 use Rattle.fj_script.proofs.AcceptedYields.{Yields}
-use Rattle.fj_grammar.proofs.Beginnings.{Numbers, Reached, Reading, Sayings, SoFar, Words, behind, front_same, late, numbers_at, read, sign_reached, stuck, taken, then_reading, toks}
+use Rattle.fj_grammar.proofs.Beginnings.{Numbers, Reached, Reading, Sayings, SoFar, Words, behind, init_is, last_is, late, number_narrow, numbers_at, read, sign_reached, stuck, taken, then_reading, toks}
 use Rattle.fj_grammar.proofs.BeginningLines.{Asks, MayStand, TargetIn, argument_next, ask_goes, ask_with, asks_one, asks_three, asks_two, behind_lines, exponent_argument, ideal_argument, ideal_reading, level_argument, narrow_reading, nonconstant_argument, nonconstant_reading, point_by_reading, polynomial_argument, target_argument, word_reading}
 use Rattle.fj_grammar.proofs.Continuations.{fresh, longest, nothing_ratio, one_above, one_ratio, some_ideal, some_nonconstant, some_point, whole_ratio, wide, wide_ideal, wide_nonconstant, zero_ratio}
+use Rattle.fj_grammar.proofs.ExpressionEnds.{IsNarrow}
 use Rattle.fj_grammar.proofs.GrammarPieces.{Taken, ratio_of_takes}
 use Rattle.fj_grammar.proofs.GrammarSound.{ask_is, ask_word}
 
 -- ---- fractions
 
 module _ (s0 : State) (V : Sayings) where
-  ratio_of_reading : (positive : Bool) (m n : ℕ) → m < 2 ^ 32 → n < 2 ^ 32 → (ts us : List Token) (u : State) (H : SoFar s0 V (ts ++ us) u) → Numbers s0 V (toks H.reached.init)
+  ratio_of_reading : (positive : Bool) (m n : ℕ) → m < 2 ^ 32 → n < 2 ^ 32 → (ts us : List Token) (u : State) (H : SoFar s0 V (ts ++ us) u) → Numbers s0 V (toks H.reached.init) × IsNarrow H.reached.last.token
       → Reading s0 V (λ e. e) (λ t vs. (vs ≡ us) × Taken positive m n t) ts (numbers.ratio_of positive m n u)
   unfolding numbers.ratio_of
   ratio_of_reading positive m n few fewer ts us u H k = by (numbers.lowest m n) (ratio_of_takes positive m n u few fewer)
@@ -61,10 +62,10 @@ module _ (s0 : State) (V : Sayings) where
       Goal t us = IsRatio us t × (positive ≡ true → 0 < t.numerator)
 
       -- the last number of a fraction
-      last_of : (m n : ℕ) (vs : List Token) (y : State) → vs ≡ Number m ∷ Sign slash ∷ Number n ∷ [] → (Hy : SoFar s0 V (ws ++ vs) y) → Numbers s0 V (ws ++ Number m ∷ Sign slash ∷ []) → Numbers s0 V (toks Hy.reached.init)
-      last_of m n vs y e Hy =
-          let split : (ws ++ Number m ∷ Sign slash ∷ []) ++ Number n ∷ [] ≡ ws ++ vs = append_assoc ws (Number m ∷ Sign slash ∷ []) (Number n ∷ []) ∙ ap (λ us. ws ++ us) (sym e) in
-          subst (Numbers s0 V) (front_same (ws ++ Number m ∷ Sign slash ∷ []) (toks Hy.reached.init) (Number n) Hy.reached.last.token (split ∙ Hy.reached.tokens))
+      last_of : (m n : ℕ) (vs : List Token) (y : State) → vs ≡ Number m ∷ Sign slash ∷ Number n ∷ [] → n < 2 ^ 32 → (Hy : SoFar s0 V (ws ++ vs) y) → Numbers s0 V (ws ++ Number m ∷ Sign slash ∷ []) → Numbers s0 V (toks Hy.reached.init) × IsNarrow Hy.reached.last.token
+      last_of m n vs y e few Hy k =
+          let front : List Token = Number m ∷ Sign slash ∷ [] in
+          (subst (Numbers s0 V) (init_is s0 V ws vs front (Number n) Hy e) k, subst IsNarrow (last_is s0 V ws vs front (Number n) Hy e) few)
 
       whole : (m : ℕ) (us : List Token) → us ≡ Number m ∷ [] → (r : Answer Fraction) → Reading s0 V (λ e. e) (λ t vs. (vs ≡ us) × Taken positive m 1 t) ws r → Reading s0 V (λ e. e) Goal ws r
       whole m us e r (read {x = x} vs h K) = read vs (subst (λ ts. IsRatio ts x) (sym (h.0 ∙ e)) (grammar.whole h.1.0), h.1.1) K
@@ -76,14 +77,14 @@ module _ (s0 : State) (V : Sayings) where
 
       by : (m : ℕ) (us : List Token) (u : State) → (us ≡ Number m ∷ []) × (m < 2 ^ 32) → SoFar s0 V (ws ++ us) u → (o : Option State) → after_sign slash u ≡ o
           → Reading s0 V (λ e. e) Goal ws (option_map_or (λ t. narrow t >>= λ n. numbers.ratio_of positive m n.0 n.1) o (numbers.ratio_of positive m 1 u))
-      by m us u h Hu None e = whole m us h.0 _ (ratio_of_reading positive m 1 h.1 (omega arith) ws us u Hu (numbers_at s0 V Hu h.0 k))
+      by m us u h Hu None e = whole m us h.0 _ (ratio_of_reading positive m 1 h.1 (omega arith) ws us u Hu (numbers_at s0 V Hu h.0 k, number_narrow s0 V ws Hu h.0 h.1))
       by m us u h Hu (Some x) e =
           let slashed = sign_reached s0 slash u x Hu.reached e in
           let here : (ws ++ us) ++ Sign slash ∷ [] ≡ ws ++ Number m ∷ Sign slash ∷ [] = append_assoc ws us (Sign slash ∷ []) ∙ ap (λ vs. ws ++ (vs ++ Sign slash ∷ [])) h.0 in
           let read_n = narrow_reading s0 V (ws ++ Number m ∷ Sign slash ∷ []) x (subst (λ vs. Reached s0 vs x) here slashed) (goes m h.1).0 (goes m h.1).1 in
           then_reading s0 V (λ e. e) _
           (behind s0 V (λ e. e) {R = λ n vs. (vs ≡ Number m ∷ Sign slash ∷ Number n ∷ []) × (n < 2 ^ 32)} ws (Number m ∷ Sign slash ∷ []) (narrow x) read_n (λ n vs l. (ap (λ xs. Number m ∷ Sign slash ∷ xs) l.0, l.1)))
-          (λ n vs y l Hy. over m n vs l.0 _ (ratio_of_reading positive m n h.1 l.1 ws vs y Hy (last_of m n vs y l.0 Hy (goes m h.1).1)))
+          (λ n vs y l Hy. over m n vs l.0 _ (ratio_of_reading positive m n h.1 l.1 ws vs y Hy (last_of m n vs y l.0 l.1 Hy (goes m h.1).1)))
 
 -- ---- questions
 
@@ -121,7 +122,7 @@ module _ (s0 : State) (S : Session) (known : Contains primes S.prime) where
       number_next : (ts : List Token) (m : ℕ) → ((n : ℕ) → (q : Question) × IsQuestion (wide S n) (ts ++ Number m ∷ []) q) → MayStand (Some S) (Word (codes "ask") ∷ ts) × Numbers s0 (behind_lines (Some S)) (Word (codes "ask") ∷ ts)
       number_next ts m f =
           let x = f (longest ts) in
-          (ask_goes s0 S known ts (λ n. (Number m ∷ [], (f n).0, (f n).1)), (m, inr (ask_with s0 S known ts (Number m) [] x.0 x.1)))
+          (ask_goes s0 S known ts (λ n. (Number m ∷ [], (f n).0, (f n).1)), (tt, m, inr (ask_with s0 S known ts (Number m) [] x.0 x.1)))
 
       one_next : (w : List ℕ) (f : ℕ) → NamesNonconstant S w f → MayStand (Some S) (Word (codes "ask") ∷ Word (ask_word (asks.TestIdeal which)) ∷ Word w ∷ []) × Numbers s0 (behind_lines (Some S)) (Word (codes "ask") ∷ Word (ask_word (asks.TestIdeal which)) ∷ Word w ∷ [])
       one_next w f h = number_next (Word (ask_word (asks.TestIdeal which)) ∷ Word w ∷ []) 1 (λ n. (_, wide_test which n w f (wide_nonconstant S n w f h) (Number 1 ∷ []) one_ratio (grammar.whole (whole_ratio 1 (omega arith) (omega arith))) (λ _. one_above)))
@@ -143,8 +144,8 @@ module _ (s0 : State) (S : Session) (known : Contains primes S.prime) where
 
       slashed : (which : TestIdeal) (w : List ℕ) (f : ℕ) → NamesNonconstant S w f → (m : ℕ) → m < 2 ^ 32 → Slashed which w m
       slashed tests.Test w f h zero fits = zero_over tests.Test refl w f h
-      slashed tests.Left w f h zero fits = (inr beginning.left, (1, inr (inr beginning.left)))
-      slashed tests.IsJump w f h zero fits = (inr beginning.isjump, (1, inr (inr beginning.isjump)))
+      slashed tests.Left w f h zero fits = (inr beginning.left, (tt, 1, inr (inr beginning.left)))
+      slashed tests.IsJump w f h zero fits = (inr beginning.isjump, (tt, 1, inr (inr beginning.isjump)))
       slashed tests.Regular w f h zero fits = zero_over tests.Regular refl w f h
       slashed which w f h (suc m) fits = one_over which w f h (suc m) fits (omega arith)
 

@@ -1,5 +1,5 @@
 -- What stands before the fault of a session can go on.
-use Rattle.std.proofs.Common.{◌≡◌, ◌≢◌, ℕ, zero, suc, ◌+◌, ◌-◌, ◌<◌, ◌≤◌, true, cond, leb, List, [], ◌∷◌, ◌++◌, length, map, get_or, take, drop, codes, All, AllPairs, Contains, Option, Some, None, Result, Ok, Err, refl, sym, ap, ◌∙◌, subst, arith, append_assoc, inl, inr, ⊎_elim}
+use Rattle.std.proofs.Common.{◌≡◌, ◌≢◌, ℕ, zero, suc, ◌+◌, ◌-◌, ◌*◌, ◌<◌, ◌≤◌, true, cond, leb, List, [], ◌∷◌, ◌++◌, length, map, get_or, take, drop, codes, All, AllPairs, Contains, Option, Some, None, Result, Ok, Err, refl, sym, ap, ◌∙◌, subst, arith, append_assoc, inl, inr, ◌⊎◌, ⊎_elim}
 use Rattle.std.specs.List.{filter}
 use Rattle.std.specs.Option.{is_some, option_map_or}
 use Rattle.std.proofs.lemmas.Bool.{cases_lt, leb-false, leb-true, lt-ltb}
@@ -32,8 +32,8 @@ use Rattle.fj_script.proofs.AcceptedYields.{yielded}
 use Rattle.fj_grammar.proofs.FirstFault.{FirstWrong, first_wrong, line_is, lines_wrong, no_tokens}
 use Rattle.fj_grammar.proofs.Rising.{AreRising, line_rises, none_before, rising_behind, starts_before, starts_below}
 use Rattle.fj_grammar.proofs.TwoReadings.{line_from}
-use Rattle.fj_grammar.proofs.Beginnings.{Reading, SoFar, StandsAt, Stuck, Took, Words, behind, front_same, late, numbers_at, read, reading_if, sound, stuck, then_reading, too_many, toks, wrong_token}
-use Rattle.fj_grammar.proofs.BeginningLines.{MayStand, ask_goes, behind_lines, number_reading, within_reading, word_reading}
+use Rattle.fj_grammar.proofs.Beginnings.{Reading, SoFar, StandsAt, Stuck, Took, Words, behind, init_is, late, read, reading_if, sound, stuck, then_reading, too_many, toks, wrong_token}
+use Rattle.fj_grammar.proofs.BeginningLines.{MayFollow, MayStand, ask_goes, behind_lines, number_reading, within_reading, word_reading}
 use Rattle.fj_grammar.proofs.BeginningQuestions.{question_reading}
 use Rattle.fj_grammar.proofs.BeginningStatements.{IsStopped, bare, bare_alike, ideal_stopped, listed_more, listed_reading, point_stopped, poly_stopped, reading_with, stop_end, stop_if, stop_then}
 use Rattle.fj_grammar.proofs.Continuations.{other_word, other_word-is, wide, wide_ideal, wide_nonconstant, wide_point, wide_polynomial}
@@ -53,6 +53,10 @@ module _ (s0 : State) where
 
   one_variable : (v : List ℕ) → Variables (v ∷ []) (Word v ∷ [])
   one_variable v = (grammar.last grammar.variable, omega arith, λ i j d less inside. absurd (omega (arith, less, inside)))
+
+  listed_length : {us : List Token} {vs : List (List ℕ)} → AreListed IsVariable us vs → length us + 1 ≡ 2 * length vs
+  listed_length (grammar.last grammar.variable) = omega arith
+  listed_length (grammar.more {ts = ts} {us = us} grammar.variable l) = let rest = listed_length l in omega (arith, rest)
 
   -- one variable more
   variables_more : (vs : List (List ℕ)) (us : List Token) (w : List ℕ) → Variables vs us → length vs < 7 → All (λ v. v ≢ w) vs → Variables (vs ++ w ∷ []) (us ++ Sign comma ∷ Word w ∷ [])
@@ -99,7 +103,7 @@ module _ (s0 : State) where
       plain : Reading s0 (behind_lines None) (λ e. e) (λ p us. us ≡ Number p ∷ []) (Word (codes "ring") ∷ []) (rings.prime t)
       plain =
           then_reading s0 (behind_lines None) (λ e. e) _ (number_reading s0 (behind_lines None) (Word (codes "ring") ∷ []) t H.reached ring_begins)
-          (λ n us u e Hu. reading_if s0 (behind_lines None) (λ e. e) (rings.is_prime n) _ _ (λ _. read us e Hu) (λ _. stuck (late s0 (behind_lines None) Hu (numbers_at s0 (behind_lines None) {ws = Word (codes "ring") ∷ []} Hu e (2, inr (inl ring_with_prime))))))
+          (λ n us u e Hu. reading_if s0 (behind_lines None) (λ e. e) (rings.is_prime n) _ _ (λ _. read us e Hu) (λ _. stuck (late s0 (behind_lines None) Hu (2, subst (λ ts. MayFollow None ts (Number 2)) (init_is s0 (behind_lines None) (Word (codes "ring") ∷ []) us [] (Number n) Hu e) (inl ring_with_prime)))))
 
   module _ (p : ℕ) (known : Contains primes p) where
     variable_more : (vs : List (List ℕ)) (us : List Token) (t : State) → Variables vs us → SoFar s0 (behind_lines None) ((Word (codes "ring") ∷ Number p ∷ []) ++ (us ++ Sign comma ∷ [])) t
@@ -109,15 +113,21 @@ module _ (s0 : State) where
         then_reading s0 (behind_lines None) (λ e. e) _
         (behind s0 (behind_lines None) (λ e. e) {Q = λ w ws. ws ≡ Word w ∷ []} {R = λ w ws. ws ≡ us ++ Sign comma ∷ Word w ∷ []} (Word (codes "ring") ∷ Number p ∷ []) (us ++ Sign comma ∷ []) _
         (word_reading s0 (behind_lines None) (Word (codes "ring") ∷ Number p ∷ (us ++ Sign comma ∷ [])) t H.reached (ring_comma p vs us known l)) (λ w ws e. ap (λ xs. (us ++ Sign comma ∷ []) ++ xs) e ∙ append_assoc us (Sign comma ∷ []) (Word w ∷ [])))
-        (λ w ws u e Hu. reading_if s0 (behind_lines None) (λ e. e) (leb 7 (length vs)) _ _ (λ many. stuck (late s0 (behind_lines None) Hu (words_there ws w e Hu (w, inr (inr (eighth l (leb-true 7 (length vs) many)))))))
-        (λ few. reading_if s0 (behind_lines None) (λ e. e) (is_some (place_of vs w)) _ _ (λ _. stuck (late s0 (behind_lines None) Hu (words_there ws w e Hu (other_word vs, inr (inl (variable_next p vs us known l (leb-false 7 (length vs) few)))))))
+        (λ w ws u e Hu. reading_if s0 (behind_lines None) (λ e. e) (leb 7 (length vs)) _ _ (λ many. stuck (late s0 (behind_lines None) Hu (subst (Words s0 (behind_lines None)) (before_word ws w e Hu) (w, inr (inr (eighth l (leb-true 7 (length vs) many)))))))
+        (λ few. reading_if s0 (behind_lines None) (λ e. e) (is_some (place_of vs w)) _ _ (λ _. stuck (late s0 (behind_lines None) Hu (taken_early ws w e Hu (leb-false 7 (length vs) few))))
         (λ new. read ws (subst (Variables (vs ++ w ∷ [])) (sym e) (variables_more vs us w l (leb-false 7 (length vs) few) (λ i d inside. unlike w vs (nothing_found _ new) i d inside))) Hu)))
       where
-        words_there : (ws : List Token) (w : List ℕ) {u : State} → ws ≡ us ++ Sign comma ∷ Word w ∷ [] → (Hu : SoFar s0 (behind_lines None) ((Word (codes "ring") ∷ Number p ∷ []) ++ ws) u)
-            → Words s0 (behind_lines None) (Word (codes "ring") ∷ Number p ∷ (us ++ Sign comma ∷ [])) → Words s0 (behind_lines None) (toks Hu.reached.init)
-        words_there ws w e Hu =
-            let split : (Word (codes "ring") ∷ Number p ∷ (us ++ Sign comma ∷ [])) ++ Word w ∷ [] ≡ (Word (codes "ring") ∷ Number p ∷ []) ++ ws = ap (λ vs. Word (codes "ring") ∷ Number p ∷ vs) (append_assoc us (Sign comma ∷ []) (Word w ∷ []) ∙ sym e) in
-            subst (Words s0 (behind_lines None)) (front_same (Word (codes "ring") ∷ Number p ∷ (us ++ Sign comma ∷ [])) (toks Hu.reached.init) (Word w) Hu.reached.last.token (split ∙ Hu.reached.tokens))
+        before_word : (ws : List Token) (w : List ℕ) {u : State} → ws ≡ us ++ Sign comma ∷ Word w ∷ [] → (Hu : SoFar s0 (behind_lines None) ((Word (codes "ring") ∷ Number p ∷ []) ++ ws) u) → Word (codes "ring") ∷ Number p ∷ (us ++ Sign comma ∷ []) ≡ toks Hu.reached.init
+        before_word ws w e Hu = init_is s0 (behind_lines None) (Word (codes "ring") ∷ Number p ∷ []) ws (us ++ Sign comma ∷ []) (Word w) Hu (e ∙ sym (append_assoc us (Sign comma ∷ []) (Word w ∷ [])))
+
+        -- a variable that is taken is one of the first seven
+        taken_early : (ws : List Token) (w : List ℕ) {u : State} → ws ≡ us ++ Sign comma ∷ Word w ∷ [] → (Hu : SoFar s0 (behind_lines None) ((Word (codes "ring") ∷ Number p ∷ []) ++ ws) u) → length vs < 7
+            → Words s0 (behind_lines None) (toks Hu.reached.init) × (⊥ ⊎ (length (toks Hu.reached.init) ≤ 14))
+        taken_early ws w e Hu few =
+            let before = before_word ws w e Hu in
+            let same = ap length before in
+            let long = length-append us (Sign comma ∷ []) in
+            (subst (Words s0 (behind_lines None)) before (other_word vs, inr (inl (variable_next p vs us known l few))), inr (omega (arith, same, long, few, listed_length l.0)))
 
     variable_first : (t : State) → SoFar s0 (behind_lines None) (Word (codes "ring") ∷ Number p ∷ []) t
         → Reading s0 (behind_lines None) (λ e. e) (λ w ws. Variables (w ∷ []) ws) (Word (codes "ring") ∷ Number p ∷ []) (rings.variable [] t)
@@ -178,7 +188,7 @@ module _ (s0 : State) (S : Session) (known : Contains primes S.prime) (some_vari
   unfolding statements.budget
   budget_stopped t H =
       stop_then s0 (behind_lines (Some S)) _ (within_reading s0 (behind_lines (Some S)) 1 10000000 (Word (codes "budget") ∷ []) t H.reached (inl (bare S, bare_alike S _, Number 1 ∷ [], _, grammar.budget (omega arith) (omega arith)))
-      (1, inr (inl (bare S, bare_alike S _, [], _, grammar.budget (omega arith) (omega arith)))))
+      (tt, 1, inr (inl (bare S, bare_alike S _, [], _, grammar.budget (omega arith) (omega arith)))))
       (λ n us u h Hu. stop_end s0 (behind_lines (Some S)) _ (Word (codes "budget") ∷ Number n ∷ []) u (subst (λ vs. SoFar s0 (behind_lines (Some S)) (Word (codes "budget") ∷ vs) u) h.0 Hu) (inl (bare S, bare_alike S _, [], _, grammar.budget h.1.0 h.1.1)))
 
   asking_stopped : (t : State) → SoFar s0 (behind_lines (Some S)) (Word (codes "ask") ∷ []) t → IsStopped s0 (behind_lines (Some S)) (statements.asking S t)

@@ -1,5 +1,5 @@
 -- What was read before a fault can go on: how far a line was read, and expressions.
-use Rattle.std.proofs.Common.{◌≡◌, ℕ, zero, suc, ◌%◌, ◌≤◌, Bool, true, false, cond, eqb, ltb, List, [], ◌∷◌, ◌++◌, length, map, Option, Some, None, Result, Ok, Err, refl, sym, ap, ◌∙◌, subst, arith, append_assoc, inl, inr, ◌⊎◌}
+use Rattle.std.proofs.Common.{◌≡◌, ℕ, zero, suc, ◌%◌, ◌^◌, ◌<◌, ◌≤◌, Bool, true, false, cond, eqb, ltb, List, [], ◌∷◌, ◌++◌, length, map, Option, Some, None, Result, Ok, Err, refl, sym, ap, ◌∙◌, subst, arith, append_assoc, inl, inr, ◌⊎◌}
 use Rattle.std.specs.FinMap.{empty}
 use Rattle.std.specs.Option.{option_map, option_map_or}
 use Rattle.std.proofs.lemmas.Bool.{eqb-true, leb-false, ltb-false}
@@ -24,6 +24,7 @@ use Rattle.fj_script.specs.declared.fault.FaultKind.{FaultKind}
 use Rattle.fj_script.specs.declared.fault.FaultKind.TheVariants as kinds
 use Rattle.fj_script.specs.declared.fault.LineFault.{LineFault}
 use Rattle.fj_script.specs.LineFault.{◌>>=◌, fault_of, kind_of}
+use Rattle.fj_grammar.proofs.ExpressionEnds.{EndsNarrow, IsNarrow, exponent_narrow, factor_narrow, narrow_behind, term_narrow}
 use Rattle.fj_grammar.proofs.FineValues.{IsFine, fine_constant, fine_empty, fine_negation, fine_one, fine_variable, negation_empty, zero_is_empty}
 
 abbrev pub toks : List Placed → List Token
@@ -58,6 +59,16 @@ abbrev pub Blames : FaultKind → List Placed → Type 0
 Blames k [] = Unit {0}
 Blames k (t ∷ ts) = t.token ≡ BadByte → k ≡ kinds.Byte
 
+abbrev pub BeginsNarrow : List Token → Type 0
+BeginsNarrow [] = Unit {0}
+BeginsNarrow (t ∷ ts) = IsNarrow t
+
+abbrev BeginsWith : Token → List Token → Type 0
+BeginsWith t us = (vs : List Token) × (us ≡ t ∷ vs)
+
+abbrev pub EndsWithNumber : List Token → Type 0
+EndsWithNumber ts = (n : ℕ) × (us : List Token) × (ts ≡ us ++ Number n ∷ [])
+
 sound_blames : (k : FaultKind) (t : Placed) (ts : List Placed) → IsSound t.token → Blames k (t ∷ ts)
 sound_blames k t ts sound e = absurd (subst IsSound e sound)
 
@@ -72,8 +83,10 @@ unexpected_blames t = by t.left
     by [] = tt
     by (u ∷ us) = λ e. blame_is u.token e
 
--- What may be said of tokens: that they can go on, that they can go on with a token, and that there are too many at the last one.
+-- What may be said of a line: that there is a ring before it. And of tokens: that they can go on, that they can go on with a
+-- token, and that there are too many at the last one.
 pub record Sayings : Type 1 where
+  pub HasRing : Type 0
   pub Goes : List Token → Type 0
   pub Next : List Token → Token → Type 0
   pub Many : List Token → Type 0
@@ -138,20 +151,21 @@ module _ (s0 : State) (V : Sayings) where
   pub sound : (ts : List Token) (tok : Token) {t : State} → IsSound tok → Took (ts ++ tok ∷ []) t → SoFar (ts ++ tok ∷ []) t
   sound ts tok is H = record { reached = H.reached; goes_on = H.goes_on; sound = subst IsSound (last_same ts (toks H.reached.init) tok H.reached.last.token H.reached.tokens) is }
 
-  -- Tokens can go on with a number, or with a word.
+  -- Behind the ring's line tokens can go on with a number; and they can go on with a word.
   abbrev pub Numbers : List Token → Type 0
-  Numbers ts = (n : ℕ) × (V.Goes (ts ++ Number n ∷ []) ⊎ V.Next ts (Number n))
+  Numbers ts = V.HasRing × (n : ℕ) × (V.Goes (ts ++ Number n ∷ []) ⊎ V.Next ts (Number n))
 
   abbrev pub Words : List Token → Type 0
   Words ts = (w : List ℕ) × (V.Goes (ts ++ Word w ∷ []) ⊎ V.Next ts (Word w))
 
-  -- What is said of the tokens before a fault of this kind, and of those from its place on.
+  -- What is said of the tokens before a fault of this kind, and of those from its place on: which tokens might stand there, and
+  -- what the kinds that are higher have to do with it.
   abbrev pub Fits : FaultKind → List Token → List Token → Type 0
-  Fits kinds.Prime ts us = Numbers ts
+  Fits kinds.Prime ts us = (n : ℕ) × V.Next ts (Number n)
   Fits kinds.Wide ts us = Numbers ts
-  Fits kinds.Range ts us = Numbers ts
+  Fits kinds.Range ts us = Numbers ts × BeginsNarrow us
   Fits kinds.Vars ts us = Words ts
-  Fits kinds.Taken ts us = Words ts
+  Fits kinds.Taken ts us = Words ts × (V.HasRing ⊎ (length ts ≤ 14))
   Fits kinds.Unknown ts us = Words ts
   Fits kinds.Kind ts us = Words ts
   Fits kinds.Constant ts us = Words ts
@@ -160,8 +174,8 @@ module _ (s0 : State) (V : Sayings) where
   Fits kinds.Byte ts us = Unit {0}
   Fits kinds.Syntax ts us = Unit {0}
   Fits kinds.NoRing ts us = Unit {0}
-  Fits kinds.Large ts us = Unit {0}
-  Fits kinds.Arity ts us = Unit {0}
+  Fits kinds.Large ts us = BeginsNarrow us
+  Fits kinds.Arity ts us = BeginsWith (Sign closing) us → EndsWithNumber ts
 
   -- A fault stands at its column, and the tokens before it can go on.
   pub record Stuck (f : LineFault) : Type 0 where
@@ -200,12 +214,32 @@ module _ (s0 : State) (V : Sayings) where
     blames = λ e. blame_is tok (last_same ts (toks H.reached.init) tok H.reached.last.token H.reached.tokens ∙ e);
   }
 
+  -- The token at the place, and those before it.
+  pub init_is : (ws us front : List Token) (tok : Token) {u : State} (H : SoFar (ws ++ us) u) → us ≡ front ++ tok ∷ [] → ws ++ front ≡ toks H.reached.init
+  init_is ws us front tok H e = front_same (ws ++ front) (toks H.reached.init) tok H.reached.last.token (append_assoc ws front (tok ∷ []) ∙ ap (λ vs. ws ++ vs) (sym e) ∙ H.reached.tokens)
+
+  pub last_is : (ws us front : List Token) (tok : Token) {u : State} (H : SoFar (ws ++ us) u) → us ≡ front ++ tok ∷ [] → tok ≡ H.reached.last.token
+  last_is ws us front tok H e = last_same (ws ++ front) (toks H.reached.init) tok H.reached.last.token (append_assoc ws front (tok ∷ []) ∙ ap (λ vs. ws ++ vs) (sym e) ∙ H.reached.tokens)
+
+  pub narrow_at : (ws us : List Token) {u : State} (H : SoFar (ws ++ us) u) → EndsNarrow us → IsNarrow H.reached.last.token
+  narrow_at ws us H h = subst IsNarrow (last_is ws us h.front h.last H h.whole) h.narrow
+
+  pub number_narrow : (ws : List Token) {us : List Token} {n : ℕ} {u : State} (H : SoFar (ws ++ us) u) → us ≡ Number n ∷ [] → n < 2 ^ 32 → IsNarrow H.reached.last.token
+  number_narrow ws {us} {n} H e few = subst IsNarrow (last_is ws us [] (Number n) H e) few
+
+  -- Arity at a closing parenthesis behind a number, and at another sign
+  pub closes : (ws us front : List Token) {rest : List Token} {u : State} (H : SoFar (ws ++ us) u) → us ≡ front ++ Sign closing ∷ [] → EndsWithNumber front → Fits kinds.Arity (toks H.reached.init) (H.reached.last.token ∷ rest)
+  closes ws us front H e (n, vs, ends) begins = (n, ws ++ vs, sym (init_is ws us front (Sign closing) H e) ∙ ap (λ xs. ws ++ xs) ends ∙ sym (append_assoc ws vs (Number n ∷ [])))
+
+  pub no_closing : (b : ℕ) (ws us front : List Token) {rest : List Token} {u : State} (H : SoFar (ws ++ us) u) → us ≡ front ++ Sign b ∷ [] → (b ≡ closing → ⊥) → Fits kinds.Arity (toks H.reached.init) (H.reached.last.token ∷ rest)
+  no_closing b ws us front H e other begins = let last : Sign b ≡ H.reached.last.token = last_is ws us front (Sign b) H e in let first : H.reached.last.token ≡ Sign closing = (let same = begins.1 in cc) in let signs = last ∙ first in absurd (other cc)
+
   -- before a number, and before a word
   pub numbers_at : {ws us : List Token} {n : ℕ} {u : State} (H : SoFar (ws ++ us) u) → us ≡ Number n ∷ [] → Numbers ws → Numbers (toks H.reached.init)
-  numbers_at {ws} {us} {n} H e k = subst Numbers (front_same ws (toks H.reached.init) (Number n) H.reached.last.token (ap (λ vs. ws ++ vs) (sym e) ∙ H.reached.tokens)) k
+  numbers_at {ws} {us} {n} H e k = subst Numbers (sym (append-nil ws) ∙ init_is ws us [] (Number n) H e) k
 
   pub words_at : {ws us : List Token} {w : List ℕ} {u : State} (H : SoFar (ws ++ us) u) → us ≡ Word w ∷ [] → Words ws → Words (toks H.reached.init)
-  words_at {ws} {us} {w} H e k = subst Words (front_same ws (toks H.reached.init) (Word w) H.reached.last.token (ap (λ vs. ws ++ vs) (sym e) ∙ H.reached.tokens)) k
+  words_at {ws} {us} {w} H e k = subst Words (sym (append-nil ws) ∙ init_is ws us [] (Word w) H e) k
 
   pub too_many : {ts : List Token} {t : State} → SoFar ts t → V.Many ts → Stuck (record { kind = kinds.Many; column = t.start })
   too_many {ts} {t} H many = late H (H.reached.last.token, toks t.left, refl, subst V.Many H.reached.tokens many)
@@ -296,9 +330,9 @@ module _ (s0 : State) (V : Sayings) where
       by None e rec = read us w H
       by (Some r) e rec = then_reading fault_of (λ r. text.repeat turn n r.0 r.1) (each x us t r w H e) (λ y vs u k K. rec y vs u k K)
 
-  formed_reading : {W : Polynomial → List Token → Type 0} (ts us : List Token) (o : Option Polynomial) (u : State) → SoFar (ts ++ us) u → ((f : Polynomial) → o ≡ Some f → W f us) → Reading fault_of W ts (text.formed o u)
-  formed_reading ts us None u H w = stuck (late H tt)
-  formed_reading ts us (Some f) u H w = read us (w f refl) H
+  formed_reading : {W : Polynomial → List Token → Type 0} (ts us : List Token) (o : Option Polynomial) (u : State) → SoFar (ts ++ us) u → EndsNarrow us → ((f : Polynomial) → o ≡ Some f → W f us) → Reading fault_of W ts (text.formed o u)
+  formed_reading ts us None u H ends w = stuck (late H (narrow_at ts us H ends))
+  formed_reading ts us (Some f) u H ends w = read us (w f refl) H
 
 module _ {F : Field} (L : IsField F) (meaning : List ℕ → Meaning) where
   abbrev pub Atom : ℕ → Polynomial → List Token → Type 0
@@ -399,10 +433,10 @@ module _ {F : Field} (L : IsField F) (meaning : List ℕ → Meaning) where
 
   -- ---- what is read of an expression, where its beginnings can go on
 
-  module _ (s0 : State) (V : Sayings) (name : List ℕ) (place : ℕ) (named : meaning name ≡ meanings.Variable place) where
+  module _ (s0 : State) (V : Sayings) (ring : V.HasRing) (name : List ℕ) (place : ℕ) (named : meaning name ≡ meanings.Variable place) where
     -- What is read behind an opening parenthesis.
     abbrev Inside : ℕ → Type 0
-    Inside d = (ts : List Token) (u : State) → SoFar s0 V ts u → ((us : List Token) → GoesOnFactor d (Sign opening ∷ us) → V.Goes (ts ++ us))
+    Inside d = (ts : List Token) (u : State) (H : SoFar s0 V ts u) → IsNarrow H.reached.last.token → ((us : List Token) → GoesOnFactor d (Sign opening ∷ us) → V.Goes (ts ++ us))
         → Reading s0 V fault_of (λ f us. Atom d f (Sign opening ∷ us)) ts (text.parenthesised F meaning d u)
 
     at_once : (ts : List Token) → V.Goes (ts ++ []) → V.Goes ts
@@ -421,7 +455,7 @@ module _ {F : Field} (L : IsField F) (meaning : List ℕ → Meaning) where
       atom_reading ts t H K = reading_next s0 V fault_of (λ t. text.atom_of F meaning (text.parenthesised F meaning d) t.0 t.1) (unexpected t) refl H.reached (at_once ts (K [] (factor_default d))) each
         where
           a_number : Numbers s0 V ts
-          a_number = (0, inl (K (Number 0 ∷ []) (atom_ends d (Number 0 ∷ []) (term (0 % F.characteristic) origin) (grammar.number (omega arith), fine_constant L 0))))
+          a_number = (ring, 0, inl (K (Number 0 ∷ []) (atom_ends d (Number 0 ∷ []) (term (0 % F.characteristic) origin) (grammar.number (omega arith), fine_constant L 0))))
 
           a_word : Words s0 V ts
           a_word = (name, inl (K (Word name ∷ []) (atom_ends d (Word name ∷ []) (term 1 (variable_exponents place)) (grammar.word named, fine_variable L place))))
@@ -440,7 +474,7 @@ module _ {F : Field} (L : IsField F) (meaning : List ℕ → Meaning) where
           each (Sign s) u Hu =
               reading_if s0 V fault_of (eqb s opening) _ _
               (λ e. let Ho = subst (λ n. SoFar s0 V (ts ++ Sign n ∷ []) u) (eqb-true s opening e) (sound s0 V ts (Sign s) tt Hu) in
-              behind s0 V fault_of ts (Sign opening ∷ []) _ (I (ts ++ Sign opening ∷ []) u Ho (λ us g. behind_one ts us (Sign opening) (K (Sign opening ∷ us) g))) (λ f us h. h))
+              behind s0 V fault_of ts (Sign opening ∷ []) _ (I (ts ++ Sign opening ∷ []) u Ho (narrow_at s0 V ts (Sign opening ∷ []) Ho (record { front = []; last = Sign opening; whole = refl; narrow = tt })) (λ us g. behind_one ts us (Sign opening) (K (Sign opening ∷ us) g))) (λ f us h. h))
               (λ e. stuck (wrong_token s0 V ts (Sign s) Hu))
 
       factor_reading : (ts : List Token) (t : State) → SoFar s0 V ts t → ((us : List Token) → GoesOnFactor d us → V.Goes (ts ++ us))
@@ -456,7 +490,7 @@ module _ {F : Field} (L : IsField F) (meaning : List ℕ → Meaning) where
           a_number : (f : Polynomial) (us : List Token) → Atom d f us → Numbers s0 V (ts ++ (us ++ Sign caret ∷ []))
           a_number f us h =
               let goes = K (us ++ Sign caret ∷ Number 0 ∷ []) ([], term 1 origin, subst (λ ws. IsFactor F meaning d ws (term 1 origin)) (sym (append-nil (us ++ Sign caret ∷ Number 0 ∷ []))) (power_goes d us f h), inr refl) in
-              (0, inl (subst V.Goes (ap (λ ws. ts ++ ws) (sym (append_assoc us (Sign caret ∷ []) (Number 0 ∷ []))) ∙ sym (append_assoc ts (us ++ Sign caret ∷ []) (Number 0 ∷ []))) goes))
+              (ring, 0, inl (subst V.Goes (ap (λ ws. ts ++ ws) (sym (append_assoc us (Sign caret ∷ []) (Number 0 ∷ []))) ∙ sym (append_assoc ts (us ++ Sign caret ∷ []) (Number 0 ∷ []))) goes))
 
           exponent : (f : Polynomial) (us : List Token) → Atom d f us → (tok : Token) (w : State) → Took s0 V ((ts ++ (us ++ Sign caret ∷ [])) ++ tok ∷ []) w → Reading s0 V fault_of (Exponent us) ts (text.exponent_of tok w)
           exponent f us h (Word x) w Hw = stuck (wrong_token s0 V (ts ++ (us ++ Sign caret ∷ [])) (Word x) Hw)
@@ -465,7 +499,7 @@ module _ {F : Field} (L : IsField F) (meaning : List ℕ → Meaning) where
           exponent f us h (Number k) w Ho =
               let Hw = sound s0 V (ts ++ (us ++ Sign caret ∷ [])) (Number k) tt Ho in
               reading_if s0 V fault_of (text.is_wide k) _ _ (λ _. stuck (late s0 V Hw (numbers_at s0 V Hw refl (a_number f us h))))
-              (λ _. reading_if s0 V fault_of (ltb 1000 k) _ _ (λ _. stuck (late s0 V Hw tt))
+              (λ fits. reading_if s0 V fault_of (ltb 1000 k) _ _ (λ _. stuck (late s0 V Hw (number_narrow s0 V (ts ++ (us ++ Sign caret ∷ [])) Hw refl (leb-false (2 ^ 32) k fits))))
               (λ e. read (us ++ Sign caret ∷ Number k ∷ []) (refl, ltb-false _ _ e)
               (subst (λ ws. SoFar s0 V ws w) (append_assoc ts (us ++ Sign caret ∷ []) (Number k ∷ []) ∙ ap (λ ws. ts ++ ws) (append_assoc us (Sign caret ∷ []) (Number k ∷ []))) Hw)))
 
@@ -474,7 +508,7 @@ module _ {F : Field} (L : IsField F) (meaning : List ℕ → Meaning) where
           raised f us h v Hv =
               then_reading s0 V fault_of (λ k. text.formed (text.power_within F f k.0) k.1)
               (reading_next s0 V fault_of {Q = Exponent us} {ts = ts} (λ t. text.exponent_of t.0 t.1) (unexpected v) refl Hv.reached (K (us ++ Sign caret ∷ []) (atom_raised d us f h)) (exponent f us h))
-              (λ k vs w q Hw. formed_reading s0 V ts vs (text.power_within F f k) w Hw
+              (λ k vs w q Hw. formed_reading s0 V ts vs (text.power_within F f k) w Hw (subst EndsNarrow (sym q.0) (exponent_narrow us k q.1))
               (λ g e. let p = power-small L h.1.polynomial k g e in
               subst (λ ws. Factor d g ws) (sym q.0) (subst (λ y. Factor d y (us ++ Sign caret ∷ Number k ∷ [])) (sym p.0) (grammar.raised h.0 q.1 p.1, fine_power f h.1 k p.1))))
 
@@ -497,7 +531,7 @@ module _ {F : Field} (L : IsField F) (meaning : List ℕ → Meaning) where
               let whole = behind s0 V fault_of {Q = Factor d} {R = Behind} ts (us ++ Sign star ∷ []) _ factor (λ g vs k. (vs, append_assoc us (Sign star ∷ []) vs, k)) in
               subst (Reading s0 V fault_of (Term d) ts) (same_Some _ _ h)
               (then_reading s0 V fault_of (λ g. text.formed (text.within (product F x g.0)) g.1) whole
-              (λ g ws z k Hz. formed_reading s0 V ts ws (text.within (product F x g)) z Hz
+              (λ g ws z k Hz. formed_reading s0 V ts ws (text.within (product F x g)) z Hz (subst EndsNarrow (sym k.1) (narrow_behind us (Sign star ∷ k.0) (narrow_behind (Sign star ∷ []) k.0 (factor_narrow k.2.0))))
               (λ y ok. let p = within-small (product F x g) y ok in
               subst (Term d y) (sym k.1) (subst (λ a. Term d a (us ++ Sign star ∷ k.0)) p.0 (grammar.times w.0 k.2.0 p.1, record { polynomial = IsPolynomial-product L w.1.polynomial k.2.1.polynomial; within = p.1 })))))
 
@@ -539,6 +573,9 @@ module _ {F : Field} (L : IsField F) (meaning : List ℕ → Meaning) where
           Behind : ℕ → Polynomial → List Token → Type 0
           Behind sgn g ws = (vs : List Token) × (ws ≡ us ++ Sign sgn ∷ vs) × Term d g vs
 
+          behind_ends : (sgn : ℕ) (g : Polynomial) {ws : List Token} → Behind sgn g ws → EndsNarrow ws
+          behind_ends sgn g k = subst EndsNarrow (sym k.1) (narrow_behind us (Sign sgn ∷ k.0) (narrow_behind (Sign sgn ∷ []) k.0 (term_narrow k.2.0)))
+
           -- the term behind a sign
           behind_sign : (sgn : ℕ) (v : State) → after_sign sgn t ≡ Some v → ((vs : List Token) → GoesOnTerm d vs → V.Goes (ts ++ (us ++ Sign sgn ∷ vs)))
               → Reading s0 V fault_of (Behind sgn) ts (text.term_at F meaning (text.parenthesised F meaning d) v)
@@ -552,13 +589,13 @@ module _ {F : Field} (L : IsField F) (meaning : List ℕ → Meaning) where
           by (Some v) q is not h =
               subst (Reading s0 V fault_of (Whole d) ts) (same_Some _ _ h)
               (then_reading s0 V fault_of (λ g. text.formed (text.within (sum F x g.0)) g.1) (behind_sign plus v is (λ vs g. K (us ++ Sign plus ∷ vs) (expression_plus d us vs x w g)))
-              (λ g ws z k Hz. formed_reading s0 V ts ws (text.within (sum F x g)) z Hz
+              (λ g ws z k Hz. formed_reading s0 V ts ws (text.within (sum F x g)) z Hz (behind_ends plus g k)
               (λ y ok. let p = within-small (sum F x g) y ok in
               subst (Whole d y) (sym k.1) (subst (λ a. Whole d a (us ++ Sign plus ∷ k.0)) p.0 (grammar.add w.0 k.2.0 p.1, record { polynomial = IsPolynomial-sum L w.1.polynomial k.2.1.polynomial; within = p.1 })))))
           by None (Some v) not is h =
               subst (Reading s0 V fault_of (Whole d) ts) (same_Some _ _ h)
               (then_reading s0 V fault_of (λ g. text.formed (text.within (sum F x (negation F g.0))) g.1) (behind_sign minus v is (λ vs g. K (us ++ Sign minus ∷ vs) (expression_minus d us vs x w g)))
-              (λ g ws z k Hz. formed_reading s0 V ts ws (text.within (sum F x (negation F g))) z Hz
+              (λ g ws z k Hz. formed_reading s0 V ts ws (text.within (sum F x (negation F g))) z Hz (behind_ends minus g k)
               (λ y ok. let p = within-small (sum F x (negation F g)) y ok in
               subst (Whole d y) (sym k.1) (subst (λ a. Whole d a (us ++ Sign minus ∷ k.0)) p.0 (grammar.less w.0 k.2.0 p.1, record { polynomial = IsPolynomial-sum L w.1.polynomial (IsPolynomial-negation L k.2.1.polynomial); within = p.1 })))))
 
@@ -571,8 +608,8 @@ module _ {F : Field} (L : IsField F) (meaning : List ℕ → Meaning) where
 
     inside_reading : (d : ℕ) → Inside d
     unfolding text.parenthesised
-    inside_reading zero ts u H K = stuck (late s0 V H tt)
-    inside_reading (suc d) ts u H K =
+    inside_reading zero ts u H narrow K = stuck (late s0 V H narrow)
+    inside_reading (suc d) ts u H narrow K =
         then_reading s0 V fault_of _ (sum_reading d (inside_reading d) ts u H (λ us g. K us (inside_goes d us g)))
         (λ f us v h Hv. let here = K us (inside_goes d us (expression_ends d us f h)) in
         reading_sign s0 V fault_of closing _ _ Hv.reached here

@@ -6,9 +6,9 @@ pub mod GrammarComplete
 pub mod TwoRuns
 pub mod TwoReadings
 pub mod Rising
-pub mod Ranks
 pub mod FirstFault
 pub mod FineValues
+pub mod ExpressionEnds
 pub mod Beginnings
 pub mod Continuations
 pub mod BeginningLines

@@ -1,103 +1,50 @@
 -- The kind of a fault is the highest at its place.
-use Rattle.std.proofs.Common.{◌≡◌, ◌≢◌, ℕ, zero, ◌+◌, ◌-◌, ◌<◌, List, [], ◌∷◌, ◌++◌, length, map, drop, get_or, All, Contains, Option, Some, None, Result, Ok, Err, codes, refl, sym, ap, ◌∙◌, subst, arith, append_assoc, inl, inr, ◌⊎◌}
-use Rattle.std.proofs.lemmas.List.{append-nil, map-append}
+use Rattle.std.proofs.Common.{◌≡◌, ◌≢◌, ℕ, zero, ◌+◌, ◌-◌, ◌^◌, ◌<◌, ◌≤◌, List, [], ◌∷◌, ◌++◌, length, drop, get_or, All, Contains, Option, Some, None, Ok, Err, codes, refl, sym, ap, ◌∙◌, subst, arith, append_assoc, inl, inr, ◌⊎◌}
+use Rattle.std.proofs.lemmas.List.{append-nil, length-map}
 use Rattle.std.proofs.lemmas.List.Elements.{Contains-append_left}
 use Rattle.fj_text.specs.State.{State, after, end_of, next}
-use Rattle.fj_text.specs.Token.{Token, Word, Number, Sign, BadByte, Placed, tokens_from}
+use Rattle.fj_text.specs.Token.{Token, Word, Number, Sign, BadByte, Placed, closing, opening, tokens_from}
 use Rattle.fj_script.specs.declared.fault.FaultKind.{FaultKind}
 use Rattle.fj_script.specs.declared.fault.FaultKind.TheVariants as kinds
 use Rattle.fj_script.specs.declared.fault.LineFault.{LineFault}
-use Rattle.fj_script.specs.declared.statement.Keyword.{Keyword}
-use Rattle.fj_script.specs.declared.statement.Keyword.TheVariants as keywords
+use Rattle.fj_script.specs.Items.{comma, equals, slash, word_of}
+use Rattle.fj_script.specs.LineFault.{◌>>=◌}
+use Rattle.fj_script.specs.Script.{lines}
+use Rattle.fj_script.specs.Session.{Session, Terms}
+use Rattle.fj_script.specs.Statement as statements
 use Rattle.fj_grammar.specs.Beginning as beginning
 use Rattle.fj_grammar.specs.Beginning.{CanGoOnWith, IsAlikeFor, IsDoomed, MakeSession}
 use Rattle.fj_grammar.specs.FirstFault.{line_at, tokens_before}
-use Rattle.fj_grammar.specs.Grammar.{IsRing, IsSession, IsStatement, tokens_of}
-use Rattle.fj_script.specs.Items.{comma, slash, word_of}
-use Rattle.fj_script.specs.LineFault.{◌>>=◌}
-use Rattle.fj_grammar.specs.Rank.{AreTooMany, BeginsWith, IsOfNumber, IsOfWord, KindIsHighest, StandsAt, lines_to, tokens_to}
-use Rattle.fj_script.specs.Script.{lines}
-use Rattle.fj_script.specs.Session.{Session}
-use Rattle.fj_script.specs.Statement as statements
+use Rattle.fj_grammar.specs.Grammar as grammar
+use Rattle.fj_grammar.specs.Grammar.{AreListed, HasTerms, IsRing, IsSession, IsStatement, tokens_of}
+use Rattle.fj_grammar.specs.Rank as rank
+use Rattle.fj_grammar.specs.Rank.{AreTooMany, IsOfNumber, IsOfWord, KindIsHighest, StandsAt, lines_to, tokens_to}
 use Rattle.fj_grammar.proofs.BeginningLines.{AreMany, MayFollow, MayStand, behind_lines}
 use Rattle.fj_grammar.proofs.BeginningSessions.{before_is, made_before, stuck_at}
 use Rattle.fj_grammar.proofs.Beginnings as Said
 use Rattle.fj_grammar.proofs.Beginnings.{last_same, toks}
+use Rattle.fj_grammar.proofs.ExpressionEnds.{EndsNarrow, IsNarrow, expression_narrow, narrow_behind}
 use Rattle.fj_grammar.proofs.FirstFault.{FirstWrong, first_wrong, line_is, lines_wrong}
-use Rattle.fj_grammar.proofs.Ranks as ranks
-use Rattle.fj_grammar.proofs.Rising.{AreRising, line_rises, starts_below}
+use Rattle.fj_grammar.proofs.Rising.{AreRising, line_rises, starts_below, token_is}
 use Rattle.fj_grammar.proofs.TwoReadings.{line_from}
 
-abbrev OfRing : Option Keyword → Type 0
-OfRing None = ⊥
-OfRing (Some keywords.Ring) = Unit {0}
-OfRing (Some keywords.Order) = ⊥
-OfRing (Some keywords.Budget) = ⊥
-OfRing (Some keywords.Poly) = ⊥
-OfRing (Some keywords.Ideal) = ⊥
-OfRing (Some keywords.Point) = ⊥
-OfRing (Some keywords.Ask) = ⊥
+-- ---- a later line of the ring
 
-abbrev keyword_at : List Placed → Option Keyword
-keyword_at [] = None
-keyword_at (t ∷ ts) = elim t.token [ Word w ↦ statements.keyword_of w | Number n ↦ None | Sign b ↦ None | BadByte ↦ None ]
-
-abbrev Made : Session → Type 0
-Made S = Unit {0}
-
--- ---- a line
-
-abbrev Fits : List Placed → Option Keyword → LineFault → Type 0
-Fits all k f = ranks.LineFits all (OfRing k) f
-
-statement_fits : (all : List Placed) (before : Option Session) (k : Option Keyword) (s : State) → ranks.IsTaken all (OfRing k) (ranks.Start all (OfRing k)) s → ranks.Holds (Fits all k) Made (statements.statement_of before k s)
-unfolding statements.first statements.later
-statement_fits all None (Some keywords.Ring) s h = ranks.ring_fits all (Unit {0}) s h
-statement_fits all None (Some keywords.Order) s h = tt
-statement_fits all None (Some keywords.Budget) s h = tt
-statement_fits all None (Some keywords.Poly) s h = tt
-statement_fits all None (Some keywords.Ideal) s h = tt
-statement_fits all None (Some keywords.Point) s h = tt
-statement_fits all None (Some keywords.Ask) s h = tt
-statement_fits all None None s h = tt
-statement_fits all (Some S) (Some keywords.Ring) s h = tt
-statement_fits all (Some S) (Some keywords.Order) s h = ranks.order_fits all ⊥ (λ n. n) S s (ranks.begins all ⊥ (λ n. n) s h)
-statement_fits all (Some S) (Some keywords.Budget) s h = ranks.budget_fits all ⊥ (λ n. n) S s (ranks.begins all ⊥ (λ n. n) s h)
-statement_fits all (Some S) (Some keywords.Poly) s h = ranks.poly_fits all ⊥ (λ n. n) S s (ranks.begins all ⊥ (λ n. n) s h)
-statement_fits all (Some S) (Some keywords.Ideal) s h = ranks.ideal_line_fits all ⊥ (λ n. n) S s (ranks.begins all ⊥ (λ n. n) s h)
-statement_fits all (Some S) (Some keywords.Point) s h = ranks.point_fits all ⊥ (λ n. n) S s (ranks.begins all ⊥ (λ n. n) s h)
-statement_fits all (Some S) (Some keywords.Ask) s h = ranks.asking_fits all ⊥ (λ n. n) S s (ranks.begins all ⊥ (λ n. n) s h)
-statement_fits all (Some S) None s h = tt
-
-first_fits : (before : Option Session) (t : Placed) (ts : List Placed) → ranks.Holds (Fits (t ∷ ts) (keyword_at (t ∷ ts))) Made (statements.statement before t.token (after t ts))
-unfolding statements.statement word_of
-first_fits before t ts = by t.token refl
+ring_again : (S : Session) (t : Placed) (ts : List Placed) (f : LineFault) → t.token ≡ Word (codes "ring") → line_from (Some S) (record { left = t ∷ ts; start = 0; end = 0 }) ≡ Err f → f.kind ≡ kinds.Syntax
+unfolding statements.statement statements.later statements.keyword_of word_of next
+ring_again S t ts f e = by t.token e
   where
-    by : (tok : Token) → t.token ≡ tok → ranks.Holds (Fits (t ∷ ts) (elim tok [ Word w ↦ statements.keyword_of w | Number n ↦ None | Sign b ↦ None | BadByte ↦ None ])) Made (statements.statement before tok (after t ts))
-    by (Word w) e = statement_fits (t ∷ ts) before (statements.keyword_of w) (after t ts) (record { before = []; last = t; whole = refl; start = refl; is = (refl, w, e) })
-    by (Number n) e = tt
-    by (Sign b) e = tt
-    by BadByte e = tt
+    by : (tok : Token) → tok ≡ Word (codes "ring") → (statements.statement (Some S) tok (after t ts) >>= λ T. Ok (Some T)) ≡ Err f → f.kind ≡ kinds.Syntax
+    by tok e = subst (λ tok. (statements.statement (Some S) tok (after t ts) >>= λ T. Ok (Some T)) ≡ Err f → f.kind ≡ kinds.Syntax) (sym e) (λ h. let same : record { kind = kinds.Syntax; column = t.start } ≡ f = cc in sym (ap (λ g. g.kind) same))
 
-line_fits : (before : Option Session) (bytes : List ℕ) (f : LineFault) → statements.line before bytes ≡ Err f → Fits (tokens_from zero zero bytes) (keyword_at (tokens_from zero zero bytes)) f
-unfolding next
-line_fits before bytes f e = by (tokens_from zero zero bytes) (sym (line_is before bytes) ∙ e)
+-- A line that begins with `ring`, where another kind than Syntax is told, is the ring's.
+ring_first : (before : Option Session) (l : List ℕ) (f : LineFault) (us : List Token) → tokens_of l ≡ Word (codes "ring") ∷ us → statements.line before l ≡ Err f → (f.kind ≡ kinds.Syntax → ⊥) → (behind_lines before).HasRing → ⊥
+ring_first None l f us begins wrong other ring = ring
+ring_first (Some S) l f us begins wrong other ring = by (tokens_from zero zero l) begins (sym (line_is (Some S) l) ∙ wrong)
   where
-    made : (all : List Placed) (k : Option Keyword) (r : Result Session LineFault) → ranks.Holds (Fits all k) Made r → (r >>= λ S. Ok (Some S)) ≡ Err f → Fits all k f
-    made all k (Ok S) h e = absurd cc
-    made all k (Err g) h e = let same : g ≡ f = cc in subst (Fits all k) same h
-
-    by : (ts : List Placed) → line_from before (record { left = ts; start = 0; end = 0 }) ≡ Err f → Fits ts (keyword_at ts) f
-    by [] h = absurd cc
-    by (t ∷ ts) h = made (t ∷ ts) (keyword_at (t ∷ ts)) _ (first_fits before t ts) h
-
-ring_line : (ts : List Placed) (us : List Token) → map (λ (t : Placed). t.token) ts ≡ Word (codes "ring") ∷ us → OfRing (keyword_at ts)
-unfolding statements.keyword_of
-ring_line [] us e = absurd cc
-ring_line (t ∷ ts) us e = by t.token (let first : t.token ≡ Word (codes "ring") = cc in first)
-  where
-    by : (tok : Token) → tok ≡ Word (codes "ring") → OfRing (elim tok [ Word w ↦ statements.keyword_of w | Number n ↦ None | Sign b ↦ None | BadByte ↦ None ])
-    by tok e = subst (λ tok. OfRing (elim tok [ Word w ↦ statements.keyword_of w | Number n ↦ None | Sign b ↦ None | BadByte ↦ None ])) (sym e) tt
+    by : (ts : List Placed) → toks ts ≡ Word (codes "ring") ∷ us → line_from (Some S) (record { left = ts; start = 0; end = 0 }) ≡ Err f → ⊥
+    by [] e h = absurd cc
+    by (t ∷ ts) e h = other (ring_again S t ts f (let first : t.token ≡ Word (codes "ring") = cc in first) h)
 
 -- ---- what stands before the place, and may stand at it
 
@@ -126,19 +73,22 @@ module _ (s0 : State) (before : Option Session) (ts us : List Token) (k : FaultK
   As k = Said.Fits s0 (behind_lines before) k ts us
 
   number_follows : IsOfNumber k → (n : ℕ) × MayFollow before ts (Number n)
-  number_follows is = let x = by is in (x.0, either_follows before ts (Number x.0) (λ b e. absurd cc) x.1)
+  number_follows is = by is
     where
-      by : IsOfNumber k → Said.Numbers s0 (behind_lines before) ts
+      told : Said.Numbers s0 (behind_lines before) ts → (n : ℕ) × MayFollow before ts (Number n)
+      told (ring, n, x) = (n, either_follows before ts (Number n) (λ b e. absurd cc) x)
+
+      by : IsOfNumber k → (n : ℕ) × MayFollow before ts (Number n)
       by (inl e) = subst As e h
-      by (inr (inl e)) = subst As e h
-      by (inr (inr e)) = subst As e h
+      by (inr (inl e)) = told (subst As e h)
+      by (inr (inr e)) = let x = subst As e h in told x.0
 
   word_follows : IsOfWord k → (w : List ℕ) × MayFollow before ts (Word w)
   word_follows is = let x = by is in (x.0, either_follows before ts (Word x.0) (λ b e. absurd cc) x.1)
     where
       by : IsOfWord k → Said.Words s0 (behind_lines before) ts
       by (inl e) = subst As e h
-      by (inr (inl e)) = subst As e h
+      by (inr (inl e)) = let x = subst As e h in x.0
       by (inr (inr (inl e))) = subst As e h
       by (inr (inr (inr (inl e)))) = subst As e h
       by (inr (inr (inr (inr e)))) = subst As e h
@@ -147,22 +97,38 @@ too_many_of : (ls : List (List Token)) (before : Option Session) (ts : List Toke
 too_many_of ls None ts made many = absurd many
 too_many_of ls (Some S) ts made many = (S, made, many)
 
+terms_narrow : {S : Session} {ts : List Token} {f : Terms} → HasTerms S ts f → EndsNarrow ts
+terms_narrow (grammar.terms d) = expression_narrow d
+
+listed_narrow : {S : Session} {ts : List Token} {fs : List Terms} → AreListed (HasTerms S) ts fs → EndsNarrow ts
+listed_narrow (grammar.last h) = terms_narrow h
+listed_narrow (grammar.more {ts = ts} {us = us} h l) = narrow_behind ts (Sign comma ∷ us) (narrow_behind (Sign comma ∷ []) us (listed_narrow l))
+
+narrow_end : (front : List Token) {us : List Token} → EndsNarrow us → (n : ℕ) (ts : List Token) → front ++ us ≡ ts ++ Number n ∷ [] → n < 2 ^ 32
+narrow_end front {us} h n ts e = subst IsNarrow (last_same (front ++ h.front) ts h.last (Number n) (append_assoc front h.front (h.last ∷ []) ∙ ap (λ vs. front ++ vs) (sym h.whole) ∙ e)) h.narrow
+
+-- A number at which there are too many terms ends an expression.
+many_narrow : {S : Session} {us : List Token} → AreTooMany S us → (n : ℕ) (ts : List Token) → us ≡ ts ++ Number n ∷ [] → n < 2 ^ 32
+many_narrow (rank.questions few) n ts e = absurd (let same = last_same [] ts (Word (codes "ask")) (Number n) e in cc)
+many_narrow (rank.names {keyword} {name} d v x few) n ts e = absurd (let same = last_same (Word keyword ∷ []) ts (Word name) (Number n) e in cc)
+many_narrow (rank.generators {name} {ts = us} new l full) n ts e = absurd (let same = last_same (Word (codes "ideal") ∷ Word name ∷ Sign equals ∷ Sign opening ∷ us) ts (Sign comma) (Number n) e in cc)
+many_narrow (rank.terms {name} {ts = us} new h many) n ts e = narrow_end (Word (codes "poly") ∷ Word name ∷ Sign equals ∷ []) (terms_narrow h) n ts e
+many_narrow (rank.generator_terms {name} {ts = us} new l few many) n ts e = narrow_end (Word (codes "ideal") ∷ Word name ∷ Sign equals ∷ Sign opening ∷ []) (listed_narrow l) n ts e
+
 -- ---- a session
 
 pub kind_highest : KindIsHighest
 kind_highest bytes place H e = record {
   byte_over_others = λ stands. bad_there stands K.rest K.all K.at K.blames;
-  syntax_over_number = λ is. let x = number_follows s0 w.session (toks K.before) (toks K.rest) place.kind fits is in (x.0, (w.session, made, subst (λ ts. MayFollow w.session ts (Number x.0)) (sym (ap toks before_it)) x.1));
-  syntax_over_word = λ is. let x = word_follows s0 w.session (toks K.before) (toks K.rest) place.kind fits is in (x.0, (w.session, made, subst (λ ts. MayFollow w.session ts (Word x.0)) (sym (ap toks before_it)) x.1));
-  syntax_over_arity = λ is stands.
-      let k = ranks.number_before all R rises w.found.column (fit kinds.Arity is) stands.0 (inside stands.1) (column_of stands.0 stands.2) stands.3 in
-      (k.3.0, map (λ t. t.token) k.0, ap (map (λ t. t.token)) (tokens ∙ k.2) ∙ map-append (λ (t : Placed). t.token) k.0 (k.1 ∷ []) ∙ ap (λ u. map (λ t. t.token) k.0 ++ u ∷ []) k.3.1);
-  prime_over_wide = λ is ring. fit kinds.Wide is (of_ring ring);
-  wide_over_large = λ is n stands. ranks.narrow_there all R rises w.found.column (fit kinds.Large is) stands.0 (inside stands.1) (column_of stands.0 stands.2) n stands.3;
-  wide_over_range = λ is n stands. ranks.narrow_there all R rises w.found.column (fit kinds.Range is) stands.0 (inside stands.1) (column_of stands.0 stands.2) n stands.3;
-  wide_over_many = λ is n stands. ranks.narrow_there all R rises w.found.column (fit kinds.Many is) stands.0 (inside stands.1) (column_of stands.0 stands.2) n stands.3;
-  vars_over_taken = λ is ring. let few = ranks.early all R rises w.found.column (fit kinds.Taken is (of_ring ring)) in let same = ap length tokens in omega (arith, few, same);
-  taken_and_large_over_many = λ is t stands. many_there t stands (subst (λ k. Said.Fits s0 (behind_lines w.session) k (toks K.before) (toks K.rest)) is fits);
+  syntax_over_number = λ is. let x = number_follows s0 w.session (toks K.before) (toks K.rest) place.kind fits is in (x.0, (w.session, made, subst (λ ts. MayFollow w.session ts (Number x.0)) (sym before_it) x.1));
+  syntax_over_word = λ is. let x = word_follows s0 w.session (toks K.before) (toks K.rest) place.kind fits is in (x.0, (w.session, made, subst (λ ts. MayFollow w.session ts (Word x.0)) (sym before_it) x.1));
+  syntax_over_arity = λ is stands. let at = there (Sign closing) stands in let x = fit kinds.Arity is (at.0, at.1) in (x.0, x.1, before_it ∙ x.2);
+  prime_over_wide = λ is ring. let x = fit kinds.Wide is in ring_first w.session l w.found ring.0 (ap tokens_of (sym line_same) ∙ ring.1) w.wrong (λ syntax. absurd (let same = sym is ∙ sym kind_same ∙ syntax in cc)) x.0;
+  vars_over_taken = λ is ring. let x = fit kinds.Taken is in early (ring_first w.session l w.found ring.0 (ap tokens_of (sym line_same) ∙ ring.1) w.wrong (λ syntax. absurd (let same = sym is ∙ sym kind_same ∙ syntax in cc))) x.1;
+  taken_and_large_over_many = λ is t stands. many_there t stands (fit kinds.Many is);
+  wide_over_large = λ is n stands. narrow_there n (there (Number n) stands) (fit kinds.Large is);
+  wide_over_range = λ is n stands. let x = fit kinds.Range is in narrow_there n (there (Number n) stands) x.1;
+  wide_over_many = λ is n stands. let x = many_there (Number n) stands (fit kinds.Many is) in many_narrow x.2 n (tokens_to place bytes) refl;
 }
   where
     w : FirstWrong 1 None (lines bytes) place
@@ -177,32 +143,11 @@ kind_highest bytes place H e = record {
     rises : AreRising 0 all
     rises = line_rises l
 
-    R : Type 0
-    R = OfRing (keyword_at all)
-
-    count_is : place.line - 1 ≡ w.count
-    count_is = let at : place.line ≡ 1 + w.count = ap (λ f. f.line) w.is in omega (arith, at)
-
     line_same : line_at place.line bytes ≡ l
-    line_same = ap (λ n. get_or (lines bytes) n []) count_is
+    line_same = let at : place.line ≡ 1 + w.count = ap (λ f. f.line) w.is in let count_is : place.line - 1 ≡ w.count = omega (arith, at) in ap (λ n. get_or (lines bytes) n []) count_is
 
     kind_same : w.found.kind ≡ place.kind
     kind_same = sym (ap (λ f. f.kind) w.is)
-
-    fit : (k : FaultKind) → place.kind ≡ k → ranks.Fits all R k w.found.column
-    fit k is = subst (λ k. ranks.Fits all R k w.found.column) (kind_same ∙ is) (line_fits w.session l w.found w.wrong)
-
-    of_ring : BeginsWith place bytes (codes "ring") → R
-    of_ring (us, begins) = ring_line all us (ap tokens_of (sym line_same) ∙ begins)
-
-    inside : {at : Placed} → Contains (tokens_from zero zero (line_at place.line bytes)) at → Contains all at
-    inside {at} c = subst (λ l. Contains (tokens_from zero zero l) at) line_same c
-
-    column_of : (at : Placed) → at.start + 1 ≡ place.column → at.start ≡ w.found.column
-    column_of at c = let is : place.column ≡ w.found.column + 1 = ap (λ f. f.column) w.is in omega (arith, c, is)
-
-    tokens : tokens_before place.column (line_at place.line bytes) ≡ tokens_before (w.found.column + 1) l
-    tokens = ap (λ n. tokens_before n (line_at place.line bytes)) (ap (λ f. f.column) w.is) ∙ ap (tokens_before (w.found.column + 1)) line_same
 
     s0 : State
     s0 = record { left = all; start = 0; end = 0 }
@@ -213,31 +158,55 @@ kind_highest bytes place H e = record {
     made : MakeSession (lines_to place bytes) w.session
     made = made_before bytes place w
 
-    before_it : tokens_before place.column (line_at place.line bytes) ≡ K.before
-    before_it = tokens ∙ before_is l w.found.column K.before K.rest K.all K.at
+    column_is : place.column ≡ w.found.column + 1
+    column_is = ap (λ f. f.column) w.is
+
+    before_it : tokens_to place bytes ≡ toks K.before
+    before_it = ap toks (ap (λ n. tokens_before n (line_at place.line bytes)) column_is ∙ ap (tokens_before (w.found.column + 1)) line_same ∙ before_is l w.found.column K.before K.rest K.all K.at)
 
     fits : Said.Fits s0 (behind_lines w.session) place.kind (toks K.before) (toks K.rest)
     fits = subst (λ k. Said.Fits s0 (behind_lines w.session) k (toks K.before) (toks K.rest)) kind_same K.fits
 
-    bad_there : StandsAt place bytes BadByte → (rest : List Placed) → all ≡ K.before ++ rest → Said.StandsAt w.found.column rest (end_of K.before 0) → Said.Blames w.found.kind rest → place.kind ≡ kinds.Byte
-    bad_there stands [] whole at blames =
-        let below : All (λ t. t.start < end_of K.before 0) all = subst (All (λ (t : Placed). t.start < end_of K.before 0)) (sym (whole ∙ append-nil K.before)) (starts_below 0 K.before [] (subst (AreRising 0) whole rises)) in
-        let there = inside stands.1 in
-        let early : stands.0.start < end_of K.before 0 = subst (λ (t : Placed). t.start < end_of K.before 0) there.2 (below there.0 stands.0 there.1) in
-        let column = column_of stands.0 stands.2 in
-        absurd (omega (arith, early, column, at))
-    bad_there stands (p ∷ ps) whole at blames =
-        let same = ranks.token_is all R rises w.found.column K.before ps p whole (sym at) stands.0 (inside stands.1) (column_of stands.0 stands.2) in
-        sym kind_same ∙ blames (sym same ∙ stands.3)
+    fit : (k : FaultKind) → place.kind ≡ k → Said.Fits s0 (behind_lines w.session) k (toks K.before) (toks K.rest)
+    fit k is = subst (λ k. Said.Fits s0 (behind_lines w.session) k (toks K.before) (toks K.rest)) is fits
+
+    early : ((behind_lines w.session).HasRing → ⊥) → (behind_lines w.session).HasRing ⊎ (length (toks K.before) ≤ 14) → length (tokens_before place.column (line_at place.line bytes)) ≤ 14
+    early none (inl ring) = absurd (none ring)
+    early none (inr few) = let same = ap length before_it in let long = length-map (tokens_before place.column (line_at place.line bytes)) (λ (t : Placed). t.token) in omega (arith, few, same, long)
+
+    -- Where no token starts at the place none stands there, and else it is the first of the rest.
+    stands_first : (t : Token) → StandsAt place bytes t → (rest : List Placed) → all ≡ K.before ++ rest → Said.StandsAt w.found.column rest (end_of K.before 0) → (p : Placed) × (ps : List Placed) × (rest ≡ p ∷ ps) × (p.token ≡ t)
+    stands_first t (u, inside, start, is) rest whole at = by rest whole at
+      where
+        within : Contains all u
+        within = subst (λ l. Contains (tokens_from zero zero l) u) line_same inside
+
+        column : u.start ≡ w.found.column
+        column = omega (arith, start, column_is)
+
+        by : (rest : List Placed) → all ≡ K.before ++ rest → Said.StandsAt w.found.column rest (end_of K.before 0) → (p : Placed) × (ps : List Placed) × (rest ≡ p ∷ ps) × (p.token ≡ t)
+        by [] whole at =
+            let below : All (λ t. t.start < end_of K.before 0) all = subst (All (λ (t : Placed). t.start < end_of K.before 0)) (sym (whole ∙ append-nil K.before)) (starts_below 0 K.before [] (subst (AreRising 0) whole rises)) in
+            let early : u.start < end_of K.before 0 = subst (λ (t : Placed). t.start < end_of K.before 0) within.2 (below within.0 u within.1) in
+            absurd (omega (arith, early, column, at))
+        by (p ∷ ps) whole at = (p, ps, refl, sym (token_is rises K.before ps p whole u within (column ∙ at)) ∙ is)
 
     -- the token at the place
-    token_there : (t u : Token) (us : List Token) → StandsAt place bytes t → (rest : List Placed) → all ≡ K.before ++ rest → Said.StandsAt w.found.column rest (end_of K.before 0) → toks rest ≡ u ∷ us → u ≡ t
-    token_there t u us stands [] whole at e = absurd cc
-    token_there t u us stands (p ∷ ps) whole at e =
-        let here : p.token ≡ u = cc in
-        sym here ∙ sym (ranks.token_is all R rises w.found.column K.before ps p whole (sym at) stands.0 (inside stands.1) (column_of stands.0 stands.2)) ∙ stands.3
+    there : (t : Token) → StandsAt place bytes t → (us : List Token) × (toks K.rest ≡ t ∷ us)
+    there t stands = let x = stands_first t stands K.rest K.all K.at in (toks x.1, ap toks x.2 ∙ ap (λ u. u ∷ toks x.1) x.3)
+
+    bad_there : StandsAt place bytes BadByte → (rest : List Placed) → all ≡ K.before ++ rest → Said.StandsAt w.found.column rest (end_of K.before 0) → Said.Blames w.found.kind rest → place.kind ≡ kinds.Byte
+    bad_there stands rest whole at blames =
+        let x = stands_first BadByte stands rest whole at in
+        let first : Said.Blames w.found.kind (x.0 ∷ x.1) = subst (Said.Blames w.found.kind) x.2 blames in
+        sym kind_same ∙ first x.3
+
+    narrow_there : (n : ℕ) → (us : List Token) × (toks K.rest ≡ Number n ∷ us) → Said.BeginsNarrow (toks K.rest) → n < 2 ^ 32
+    narrow_there n (us, is) narrow = subst Said.BeginsNarrow is narrow
 
     many_there : (t : Token) → StandsAt place bytes t → Said.Fits s0 (behind_lines w.session) kinds.Many (toks K.before) (toks K.rest) → (S : Session) × IsSession (lines_to place bytes) S × AreTooMany S (tokens_to place bytes ++ t ∷ [])
     many_there t stands (u, us, e, many) =
-        let same : toks K.before ++ u ∷ [] ≡ tokens_to place bytes ++ t ∷ [] = ap (λ ts. ts ++ u ∷ []) (sym (ap toks before_it)) ∙ ap (λ v. tokens_to place bytes ++ v ∷ []) (token_there t u us stands K.rest K.all K.at e) in
-        too_many_of _ w.session _ made (subst (AreMany w.session) same many)
+        let x = there t stands in
+        let same : u ≡ t = (let firsts = sym e ∙ x.1 in cc) in
+        let tokens : toks K.before ++ u ∷ [] ≡ tokens_to place bytes ++ t ∷ [] = ap (λ ts. ts ++ u ∷ []) (sym before_it) ∙ ap (λ v. tokens_to place bytes ++ v ∷ []) same in
+        too_many_of _ w.session _ made (subst (AreMany w.session) tokens many)

@@ -1,5 +1,5 @@
 -- The tokens of a line stand one behind the other.
-use Rattle.std.proofs.Common.{◌≡◌, ℕ, zero, suc, ◌+◌, ◌-◌, ◌<◌, ◌≤◌, Bool, true, false, cond, ltb, List, [], ◌∷◌, ◌++◌, All, Option, Some, None, IfSome, refl, sym, ap, ◌∙◌, subst, arith, inl, inr}
+use Rattle.std.proofs.Common.{◌≡◌, ℕ, zero, suc, ◌+◌, ◌-◌, ◌<◌, ◌≤◌, Bool, true, false, cond, ltb, List, [], ◌∷◌, ◌++◌, All, Contains, Option, Some, None, IfSome, refl, sym, ap, ◌∙◌, subst, arith, inl, inr}
 use Rattle.std.specs.Char.{is_ascii_digit}
 use Rattle.std.specs.List.{filter, prefix_len}
 use Rattle.std.specs.Option.{option_map_or}
@@ -137,3 +137,17 @@ edge_passed M b c r q x h (t ∷ ts) = behind t ts
     behind : (t : Placed) (ts : List Placed) → IsEdgeBehind M b c r q t (ts ++ x ∷ [])
     behind t [] = inr h
     behind t (u ∷ us) = behind u us
+
+-- ---- one token at a place
+
+above : (m : ℕ) (us vs : List Placed) (t : Placed) → AreRising m (us ++ t ∷ vs) → m ≤ t.start
+above m us vs t rises = let first = end_above m us (t ∷ vs) rises in let then = rising_behind m us (t ∷ vs) rises in omega (arith, first, then.0)
+
+one_there : (m : ℕ) (us vs : List Placed) (t : Placed) → AreRising m (us ++ t ∷ vs) → All (λ u. u.start ≡ t.start → u.token ≡ t.token) (us ++ t ∷ vs)
+one_there m [] vs t rises = All-cons (λ u. u.start ≡ t.start → u.token ≡ t.token) t vs (λ e. refl) (λ i d inside e. let high = rising_all t.end vs rises.2 i d inside in absurd (omega (arith, e, high.0, rises.1)))
+one_there m (u ∷ us) vs t rises = All-cons (λ u. u.start ≡ t.start → u.token ≡ t.token) u (us ++ t ∷ vs) (λ e. let high = above u.end us vs t rises.2 in absurd (omega (arith, e, high, rises.1))) (one_there u.end us vs t rises.2)
+
+pub token_is : {all : List Placed} → AreRising 0 all → (us vs : List Placed) (t : Placed) → all ≡ us ++ t ∷ vs → (at : Placed) → Contains all at → at.start ≡ t.start → at.token ≡ t.token
+token_is {all} rises us vs t whole at (k, inside, is) e =
+    let each : All (λ u. u.start ≡ t.start → u.token ≡ t.token) all = subst (All (λ (u : Placed). u.start ≡ t.start → u.token ≡ t.token)) (sym whole) (one_there 0 us vs t (subst (AreRising 0) whole rises)) in
+    subst (λ (u : Placed). u.start ≡ t.start → u.token ≡ t.token) is (each k at inside) e
