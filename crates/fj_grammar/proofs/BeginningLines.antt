@@ -20,7 +20,7 @@ use Rattle.fj_script.specs.Names as names
 use Rattle.fj_script.specs.Numbers as numbers
 use Rattle.fj_script.specs.Question as question
 use Rattle.fj_script.specs.Question.{Target}
-use Rattle.fj_grammar.specs.Rank.{AreTooMany}
+use Rattle.fj_grammar.specs.Rank.{AreTooMany, HaveWrongArity}
 use Rattle.fj_script.specs.Session.{Session, Value, ask, kind}
 use Rattle.fj_grammar.proofs.Beginnings.{Fits, Numbers, Reached, Reading, Sayings, SoFar, Took, Words, behind, late, number_narrow, numbers_at, read, reading_if, reading_next, sound, stuck, then_reading, toks, words_at, wrong_token}
 use Rattle.fj_grammar.proofs.Continuations.{fresh, longest, some_ideal, some_level, some_nonconstant, some_polynomial, wide, wide_alike, wide_ideal, wide_nonconstant, wide_point, wide_polynomial}
@@ -33,16 +33,18 @@ MayStand before ts = CanGoOn before ts ⊎ IsDoomed ts
 abbrev pub MayFollow : Option Session → List Token → Token → Type 0
 MayFollow before ts t = CanGoOnWith before ts t ⊎ IsDoomed ts
 
-abbrev pub AreMany : Option Session → List Token → Type 0
-AreMany None ts = ⊥
-AreMany (Some S) ts = AreTooMany S ts
+abbrev pub Causes : Option Session → FaultKind → List Token → Type 0
+Causes None k ts = ⊥
+Causes (Some S) kinds.Many ts = AreTooMany S ts
+Causes (Some S) kinds.Arity ts = HaveWrongArity S ts
+Causes (Some S) k ts = Unit {0}
 
 abbrev Ringed : Option Session → Type 0
 Ringed None = ⊥
 Ringed (Some S) = Unit {0}
 
 abbrev pub behind_lines : Option Session → Sayings
-behind_lines before = record { HasRing = Ringed before; Goes = MayStand before; Next = MayFollow before; Many = AreMany before }
+behind_lines before = record { HasRing = Ringed before; Goes = MayStand before; Next = MayFollow before; Cause = Causes before }
 
 module _ (s0 : State) (V : Sayings) where
   -- A rule that takes a token first, where the tokens before it can go on.

@@ -32,7 +32,7 @@ use Rattle.fj_script.proofs.AcceptedYields.{yielded}
 use Rattle.fj_grammar.proofs.FirstFault.{FirstWrong, first_wrong, line_is, lines_wrong, no_tokens}
 use Rattle.fj_grammar.proofs.Rising.{AreRising, line_rises, none_before, rising_behind, starts_before, starts_below}
 use Rattle.fj_grammar.proofs.TwoReadings.{line_from}
-use Rattle.fj_grammar.proofs.Beginnings.{Reading, SoFar, StandsAt, Stuck, Took, Words, behind, init_is, late, read, reading_if, sound, stuck, then_reading, too_many, toks, wrong_token}
+use Rattle.fj_grammar.proofs.Beginnings.{Reading, SoFar, StandsAt, Stuck, Took, Words, behind, caused, init_is, late, read, reading_if, sound, stuck, then_reading, toks, wrong_token}
 use Rattle.fj_grammar.proofs.BeginningLines.{MayFollow, MayStand, ask_goes, behind_lines, number_reading, within_reading, word_reading}
 use Rattle.fj_grammar.proofs.BeginningQuestions.{question_reading}
 use Rattle.fj_grammar.proofs.BeginningStatements.{IsStopped, bare, bare_alike, ideal_stopped, listed_more, listed_reading, point_stopped, poly_stopped, reading_with, stop_end, stop_if, stop_then}
@@ -194,7 +194,7 @@ module _ (s0 : State) (S : Session) (known : Contains primes S.prime) (some_vari
   asking_stopped : (t : State) → SoFar s0 (behind_lines (Some S)) (Word (codes "ask") ∷ []) t → IsStopped s0 (behind_lines (Some S)) (statements.asking S t)
   unfolding statements.asking
   asking_stopped t H =
-      stop_if s0 (behind_lines (Some S)) (leb 4096 (length S.asked)) _ _ (λ full. too_many s0 (behind_lines (Some S)) H (rank.questions (leb-true 4096 (length S.asked) full)))
+      stop_if s0 (behind_lines (Some S)) (leb 4096 (length S.asked)) _ _ (λ full. late s0 (behind_lines (Some S)) H (caused s0 (behind_lines (Some S)) kinds.Many H (rank.questions (leb-true 4096 (length S.asked) full))))
       (λ _. stop_then s0 (behind_lines (Some S)) _ (question_reading s0 S known t H)
       (λ q us u h Hu. stop_end s0 (behind_lines (Some S)) _ _ u Hu (ask_goes s0 S known us (λ n. ([], q, subst (λ ws. IsQuestion (wide S n) ws q) (sym (append-nil us)) (wide_question S n h))))))
 

@@ -33,7 +33,7 @@ use Rattle.fj_grammar.specs.Rank as rank
 use Rattle.fj_grammar.specs.Rank.{AreTooMany}
 use Rattle.fj_script.specs.Session.{Session, Terms, Ideal, Point, declare, terms_in}
 use Rattle.fj_script.proofs.AcceptedYields.{Yields}
-use Rattle.fj_grammar.proofs.Beginnings.{EndsWithNumber, Numbers, Reading, Sayings, SoFar, Stuck, Whole, Words, behind, closes, expression_reading, late, no_closing, read, reading_if, reading_sign, sign_taken, stuck, then_reading, too_many, words_at, wrong_next}
+use Rattle.fj_grammar.proofs.Beginnings.{Numbers, Reading, Sayings, SoFar, Stuck, Whole, Words, behind, caused, expression_reading, late, read, reading_if, reading_sign, sign_taken, stuck, then_reading, words_at, wrong_next}
 use Rattle.fj_grammar.proofs.BeginningLines.{MayStand, behind_lines, narrow_reading, word_reading}
 use Rattle.fj_grammar.proofs.Continuations.{other_word, other_word-is}
 use Rattle.fj_grammar.proofs.FineValues.{IsFine, fine_constant}
@@ -168,7 +168,7 @@ module _ (s0 : State) (S : Session) (known : Contains primes S.prime) (some_vari
   unfolding declaration.counted
   counted_reading terms ws t H K many =
       then_reading s0 (behind_lines (Some S)) (λ e. e) _ (terms_reading ws t H K)
-      (λ f us u h Hu. reading_if s0 (behind_lines (Some S)) (λ e. e) (ltb 1000000 (terms + length f)) _ _ (λ e. stuck (too_many s0 (behind_lines (Some S)) Hu (many us f h (ltb-true 1000000 (terms + length f) e)))) (λ _. read us h Hu))
+      (λ f us u h Hu. reading_if s0 (behind_lines (Some S)) (λ e. e) (ltb 1000000 (terms + length f)) _ _ (λ e. stuck (late s0 (behind_lines (Some S)) Hu (caused s0 (behind_lines (Some S)) kinds.Many Hu (many us f h (ltb-true 1000000 (terms + length f) e))))) (λ _. read us h Hu))
 
   new_in_bare : (name : List ℕ) → IsNew S name → IsNew (bare S) name
   new_in_bare name h = record { no_variable = h.no_variable; not_declared = h.not_declared; few = h.few }
@@ -185,7 +185,7 @@ module _ (s0 : State) (S : Session) (known : Contains primes S.prime) (some_vari
           then_reading s0 (behind_lines (Some S)) (λ e. e) _ (word_reading s0 (behind_lines (Some S)) (Word kw ∷ []) t H.reached v)
           (λ w us u e Hu. reading_if s0 (behind_lines (Some S)) (λ e. e) (names.is_variable S w || is_some (place_of (names.declared_names S.values) w)) _ _ (λ _. stuck (late s0 (behind_lines (Some S)) Hu (words_at s0 (behind_lines (Some S)) Hu e k, inl tt)))
           (λ new. reading_if s0 (behind_lines (Some S)) (λ e. e) (leb 4096 (length S.values)) _ _
-          (λ full. let none = new_word S w new in stuck (too_many s0 (behind_lines (Some S)) Hu (subst (λ vs. AreTooMany S (Word kw ∷ vs)) (sym e) (rank.names declares none.0 none.1 (leb-true 4096 (length S.values) full)))))
+          (λ full. let none = new_word S w new in stuck (late s0 (behind_lines (Some S)) Hu (caused s0 (behind_lines (Some S)) kinds.Many Hu (subst (λ vs. AreTooMany S (Word kw ∷ vs)) (sym e) (rank.names declares none.0 none.1 (leb-true 4096 (length S.values) full))))))
           (λ _. read us e Hu)))
 
   -- A word of a declaration goes on with a name.
@@ -281,7 +281,7 @@ module _ (s0 : State) (S : Session) (known : Contains primes S.prime) (some_vari
         → Reading s0 (behind_lines (Some S)) (λ e. e) (λ f ws. Generators (fs ++ f ∷ []) ws) (Word (codes "ideal") ∷ Word name ∷ Sign equals ∷ Sign opening ∷ []) (declaration.generator S fs t)
     unfolding declaration.generator
     generator_more fs us t l H =
-        reading_if s0 (behind_lines (Some S)) (λ e. e) (leb 64 (length fs)) _ _ (λ e. let full = leb-true 64 (length fs) e in stuck (too_many s0 (behind_lines (Some S)) H (rank.generators new (all_of_bare l.0) (omega (arith, full, l.1)))))
+        reading_if s0 (behind_lines (Some S)) (λ e. e) (leb 64 (length fs)) _ _ (λ e. let full = leb-true 64 (length fs) e in stuck (late s0 (behind_lines (Some S)) H (caused s0 (behind_lines (Some S)) kinds.Many H (rank.generators new (all_of_bare l.0) (omega (arith, full, l.1))))))
         (λ few. let room = leb-false 64 (length fs) few in
         behind s0 (behind_lines (Some S)) (λ e. e) {Q = IsRead} (Word (codes "ideal") ∷ Word name ∷ Sign equals ∷ Sign opening ∷ []) (us ++ Sign comma ∷ []) _
         (counted_reading (S.terms + terms_in fs) (Word (codes "ideal") ∷ Word name ∷ Sign equals ∷ Sign opening ∷ (us ++ Sign comma ∷ [])) t H
@@ -352,11 +352,6 @@ module _ (s0 : State) (S : Session) (known : Contains primes S.prime) (some_vari
       (λ n us w h Hw. read us (subst (λ vs. IsCoordinate S.prime vs ((S.prime - n % S.prime) % S.prime)) (sym h.0) (grammar.negative h.1)) Hw))
       (then_reading s0 (behind_lines (Some S)) (λ e. e) _ (narrow_reading s0 (behind_lines (Some S)) ws t H.reached here number) (λ n us w h Hw. read us (subst (λ vs. IsCoordinate S.prime vs (n % S.prime)) (sym h.0) (grammar.number h.1)) Hw))
 
-  coordinates_end : {us : List Token} {cs : List ℕ} → AreListed (IsCoordinate S.prime) us cs → EndsWithNumber us
-  coordinates_end (grammar.last (grammar.number {n} few)) = (n, [], refl)
-  coordinates_end (grammar.last (grammar.negative {n} few)) = (n, Sign minus ∷ [], refl)
-  coordinates_end (grammar.more {ts = ts} {us = us} h l) = let x = coordinates_end l in (x.0, ts ++ Sign comma ∷ x.1, ap (λ vs. ts ++ Sign comma ∷ vs) x.2 ∙ sym (append_assoc ts (Sign comma ∷ x.1) (Number x.0 ∷ [])))
-
   -- with zeros behind them there is a coordinate for each variable
   fill : (k : ℕ) (cs : List ℕ) (us : List Token) → AreListed (IsCoordinate S.prime) us cs → length cs + k ≡ length S.variables → (rest : List Token) × (ds : List ℕ) × AreListed (IsCoordinate S.prime) (us ++ rest) ds × (length ds ≡ length S.variables)
   fill zero cs us l e = ([], cs, subst (λ ws. AreListed (IsCoordinate S.prime) ws cs) (sym (append-nil us)) l, omega arith)
@@ -388,7 +383,7 @@ module _ (s0 : State) (S : Session) (known : Contains primes S.prime) (some_vari
         → Reading s0 (behind_lines (Some S)) (λ e. e) (λ c ws. Coordinates (cs ++ c ∷ []) ws) (Word (codes "point") ∷ Word name ∷ Sign equals ∷ Sign opening ∷ []) (declaration.coordinate S cs t)
     unfolding declaration.coordinate
     coordinate_more cs us t l H =
-        reading_if s0 (behind_lines (Some S)) (λ e. e) (leb (length S.variables) (length cs)) _ _ (λ _. stuck (late s0 (behind_lines (Some S)) H (no_closing s0 (behind_lines (Some S)) comma (Word (codes "point") ∷ Word name ∷ Sign equals ∷ Sign opening ∷ []) (us ++ Sign comma ∷ []) us H refl (λ e. absurd (omega (arith, e))))))
+        reading_if s0 (behind_lines (Some S)) (λ e. e) (leb (length S.variables) (length cs)) _ _ (λ e. let full = leb-true (length S.variables) (length cs) e in stuck (late s0 (behind_lines (Some S)) H (caused s0 (behind_lines (Some S)) kinds.Arity H (rank.too_many new l.0 (omega (arith, full, l.1))))))
         (λ few. let room = leb-false (length S.variables) (length cs) few in
         behind s0 (behind_lines (Some S)) (λ e. e) {Q = λ c us. IsCoordinate S.prime us c} (Word (codes "point") ∷ Word name ∷ Sign equals ∷ Sign opening ∷ []) (us ++ Sign comma ∷ []) _
         (constant_reading (Word (codes "point") ∷ Word name ∷ Sign equals ∷ Sign opening ∷ (us ++ Sign comma ∷ [])) t H
@@ -400,7 +395,7 @@ module _ (s0 : State) (S : Session) (known : Contains primes S.prime) (some_vari
         → Reading s0 (behind_lines (Some S)) (λ e. e) (λ c ws. Coordinates (c ∷ []) ws) (Word (codes "point") ∷ Word name ∷ Sign equals ∷ Sign opening ∷ []) (declaration.coordinate S [] t)
     unfolding declaration.coordinate
     coordinate_first t H =
-        reading_if s0 (behind_lines (Some S)) (λ e. e) (leb (length S.variables) 0) (Err (fault_at kinds.Arity t)) (declaration.constant S.prime t) (λ _. stuck (late s0 (behind_lines (Some S)) H (no_closing s0 (behind_lines (Some S)) opening (Word (codes "point") ∷ Word name ∷ Sign equals ∷ []) (Sign opening ∷ []) [] H refl (λ e. absurd (omega (arith, e))))))
+        reading_if s0 (behind_lines (Some S)) (λ e. e) (leb (length S.variables) 0) (Err (fault_at kinds.Arity t)) (declaration.constant S.prime t) (λ e. absurd (let none = leb-true (length S.variables) 0 e in omega (arith, none, some_variable)))
         (λ _. one (constant_reading (Word (codes "point") ∷ Word name ∷ Sign equals ∷ Sign opening ∷ []) t H (λ vs g. inl (point_goes name vs g.0 (g.1 ∷ []) new (grammar.last g.2, some_variable)))))
       where
         one : {r : Answer ℕ} → Reading s0 (behind_lines (Some S)) (λ e. e) (λ c us. IsCoordinate S.prime us c) (Word (codes "point") ∷ Word name ∷ Sign equals ∷ Sign opening ∷ []) r
@@ -432,5 +427,5 @@ module _ (s0 : State) (S : Session) (known : Contains primes S.prime) (some_vari
       (name_equals_reading (codes "point") (inr (inr refl)) t H point_begins (λ name new. shorter S (Word (codes "point")) (Word name ∷ Sign equals ∷ []) (Sign opening ∷ []) (point_opens name new)))
       (λ name us u h Hu. stop_then s0 (behind_lines (Some S)) _ (point_list name h.1 u (subst (λ ws. SoFar s0 (behind_lines (Some S)) (Word (codes "point") ∷ ws) u) h.0 Hu))
       (λ cs ws w l Hw. let Hl = subst (λ vs. SoFar s0 (behind_lines (Some S)) ((Word (codes "point") ∷ Word name ∷ Sign equals ∷ []) ++ vs) w) l.1 Hw in
-      stop_if s0 (behind_lines (Some S)) (ltb (length cs) (length S.variables)) _ _ (λ _. late s0 (behind_lines (Some S)) Hl (closes s0 (behind_lines (Some S)) (Word (codes "point") ∷ Word name ∷ Sign equals ∷ []) (Sign opening ∷ l.0 ++ Sign closing ∷ []) (Sign opening ∷ l.0) Hl refl (let x = coordinates_end l.2.0 in (x.0, Sign opening ∷ x.1, ap (λ us. Sign opening ∷ us) x.2))))
+      stop_if s0 (behind_lines (Some S)) (ltb (length cs) (length S.variables)) _ _ (λ few. late s0 (behind_lines (Some S)) Hl (caused s0 (behind_lines (Some S)) kinds.Arity Hl (rank.too_few h.1 l.2.0 (ltb-true (length cs) (length S.variables) few))))
       (λ all. let each : length cs ≡ length S.variables = omega (arith, l.2.1, ltb-false _ _ all) in stop_end s0 (behind_lines (Some S)) _ _ w Hl (inl (point_closed name h.1 l.0 cs l.2.0 each)))))

@@ -63,12 +63,6 @@ abbrev pub BeginsNarrow : List Token → Type 0
 BeginsNarrow [] = Unit {0}
 BeginsNarrow (t ∷ ts) = IsNarrow t
 
-abbrev BeginsWith : Token → List Token → Type 0
-BeginsWith t us = (vs : List Token) × (us ≡ t ∷ vs)
-
-abbrev pub EndsWithNumber : List Token → Type 0
-EndsWithNumber ts = (n : ℕ) × (us : List Token) × (ts ≡ us ++ Number n ∷ [])
-
 sound_blames : (k : FaultKind) (t : Placed) (ts : List Placed) → IsSound t.token → Blames k (t ∷ ts)
 sound_blames k t ts sound e = absurd (subst IsSound e sound)
 
@@ -84,12 +78,12 @@ unexpected_blames t = by t.left
     by (u ∷ us) = λ e. blame_is u.token e
 
 -- What may be said of a line: that there is a ring before it. And of tokens: that they can go on, that they can go on with a
--- token, and that there are too many at the last one.
+-- token, and what causes a fault of this kind at the last one.
 pub record Sayings : Type 1 where
   pub HasRing : Type 0
   pub Goes : List Token → Type 0
   pub Next : List Token → Token → Type 0
-  pub Many : List Token → Type 0
+  pub Cause : FaultKind → List Token → Type 0
 
 -- A line was read from the state s0 on.
 module _ (s0 : State) where
@@ -158,6 +152,9 @@ module _ (s0 : State) (V : Sayings) where
   abbrev pub Words : List Token → Type 0
   Words ts = (w : List ℕ) × (V.Goes (ts ++ Word w ∷ []) ⊎ V.Next ts (Word w))
 
+  abbrev pub Caused : FaultKind → List Token → List Token → Type 0
+  Caused k ts us = (t : Token) × (vs : List Token) × (us ≡ t ∷ vs) × V.Cause k (ts ++ t ∷ [])
+
   -- What is said of the tokens before a fault of this kind, and of those from its place on: which tokens might stand there, and
   -- what the kinds that are higher have to do with it.
   abbrev pub Fits : FaultKind → List Token → List Token → Type 0
@@ -169,13 +166,13 @@ module _ (s0 : State) (V : Sayings) where
   Fits kinds.Unknown ts us = Words ts
   Fits kinds.Kind ts us = Words ts
   Fits kinds.Constant ts us = Words ts
-  Fits kinds.Many ts us = (t : Token) × (vs : List Token) × (us ≡ t ∷ vs) × V.Many (ts ++ t ∷ [])
+  Fits kinds.Many ts us = Caused kinds.Many ts us
   Fits kinds.Long ts us = Unit {0}
   Fits kinds.Byte ts us = Unit {0}
   Fits kinds.Syntax ts us = Unit {0}
   Fits kinds.NoRing ts us = Unit {0}
   Fits kinds.Large ts us = BeginsNarrow us
-  Fits kinds.Arity ts us = BeginsWith (Sign closing) us → EndsWithNumber ts
+  Fits kinds.Arity ts us = Caused kinds.Arity ts us
 
   -- A fault stands at its column, and the tokens before it can go on.
   pub record Stuck (f : LineFault) : Type 0 where
@@ -227,13 +224,6 @@ module _ (s0 : State) (V : Sayings) where
   pub number_narrow : (ws : List Token) {us : List Token} {n : ℕ} {u : State} (H : SoFar (ws ++ us) u) → us ≡ Number n ∷ [] → n < 2 ^ 32 → IsNarrow H.reached.last.token
   number_narrow ws {us} {n} H e few = subst IsNarrow (last_is ws us [] (Number n) H e) few
 
-  -- Arity at a closing parenthesis behind a number, and at another sign
-  pub closes : (ws us front : List Token) {rest : List Token} {u : State} (H : SoFar (ws ++ us) u) → us ≡ front ++ Sign closing ∷ [] → EndsWithNumber front → Fits kinds.Arity (toks H.reached.init) (H.reached.last.token ∷ rest)
-  closes ws us front H e (n, vs, ends) begins = (n, ws ++ vs, sym (init_is ws us front (Sign closing) H e) ∙ ap (λ xs. ws ++ xs) ends ∙ sym (append_assoc ws vs (Number n ∷ [])))
-
-  pub no_closing : (b : ℕ) (ws us front : List Token) {rest : List Token} {u : State} (H : SoFar (ws ++ us) u) → us ≡ front ++ Sign b ∷ [] → (b ≡ closing → ⊥) → Fits kinds.Arity (toks H.reached.init) (H.reached.last.token ∷ rest)
-  no_closing b ws us front H e other begins = let last : Sign b ≡ H.reached.last.token = last_is ws us front (Sign b) H e in let first : H.reached.last.token ≡ Sign closing = (let same = begins.1 in cc) in let signs = last ∙ first in absurd (other cc)
-
   -- before a number, and before a word
   pub numbers_at : {ws us : List Token} {n : ℕ} {u : State} (H : SoFar (ws ++ us) u) → us ≡ Number n ∷ [] → Numbers ws → Numbers (toks H.reached.init)
   numbers_at {ws} {us} {n} H e k = subst Numbers (sym (append-nil ws) ∙ init_is ws us [] (Number n) H e) k
@@ -241,8 +231,8 @@ module _ (s0 : State) (V : Sayings) where
   pub words_at : {ws us : List Token} {w : List ℕ} {u : State} (H : SoFar (ws ++ us) u) → us ≡ Word w ∷ [] → Words ws → Words (toks H.reached.init)
   words_at {ws} {us} {w} H e k = subst Words (sym (append-nil ws) ∙ init_is ws us [] (Word w) H e) k
 
-  pub too_many : {ts : List Token} {t : State} → SoFar ts t → V.Many ts → Stuck (record { kind = kinds.Many; column = t.start })
-  too_many {ts} {t} H many = late H (H.reached.last.token, toks t.left, refl, subst V.Many H.reached.tokens many)
+  pub caused : (k : FaultKind) {ts : List Token} {t : State} (H : SoFar ts t) → V.Cause k ts → Caused k (toks H.reached.init) (H.reached.last.token ∷ toks t.left)
+  caused k {ts} {t} H cause = (H.reached.last.token, toks t.left, refl, subst (V.Cause k) H.reached.tokens cause)
 
   unexpected_fits : (ts : List Token) (t : State) → Fits (fault_of (unexpected t)).kind ts (toks t.left)
   unfolding unexpected

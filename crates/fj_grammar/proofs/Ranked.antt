@@ -3,7 +3,7 @@ use Rattle.std.proofs.Common.{◌≡◌, ◌≢◌, ℕ, zero, ◌+◌, ◌-◌,
 use Rattle.std.proofs.lemmas.List.{append-nil, length-map}
 use Rattle.std.proofs.lemmas.List.Elements.{Contains-append_left}
 use Rattle.fj_text.specs.State.{State, after, end_of, next}
-use Rattle.fj_text.specs.Token.{Token, Word, Number, Sign, BadByte, Placed, closing, opening, tokens_from}
+use Rattle.fj_text.specs.Token.{Token, Word, Number, Sign, BadByte, Placed, opening, tokens_from}
 use Rattle.fj_script.specs.declared.fault.FaultKind.{FaultKind}
 use Rattle.fj_script.specs.declared.fault.FaultKind.TheVariants as kinds
 use Rattle.fj_script.specs.declared.fault.LineFault.{LineFault}
@@ -18,8 +18,8 @@ use Rattle.fj_grammar.specs.FirstFault.{line_at, tokens_before}
 use Rattle.fj_grammar.specs.Grammar as grammar
 use Rattle.fj_grammar.specs.Grammar.{AreListed, HasTerms, IsRing, IsSession, IsStatement, tokens_of}
 use Rattle.fj_grammar.specs.Rank as rank
-use Rattle.fj_grammar.specs.Rank.{AreTooMany, IsOfNumber, IsOfWord, KindIsHighest, StandsAt, lines_to, tokens_to}
-use Rattle.fj_grammar.proofs.BeginningLines.{AreMany, MayFollow, MayStand, behind_lines}
+use Rattle.fj_grammar.specs.Rank.{AreTooMany, HaveWrongArity, IsOfNumber, IsOfWord, KindIsHighest, StandsAt, lines_to, tokens_to}
+use Rattle.fj_grammar.proofs.BeginningLines.{Causes, MayFollow, MayStand, behind_lines}
 use Rattle.fj_grammar.proofs.BeginningSessions.{before_is, made_before, stuck_at}
 use Rattle.fj_grammar.proofs.Beginnings as Said
 use Rattle.fj_grammar.proofs.Beginnings.{last_same, toks}
@@ -93,9 +93,10 @@ module _ (s0 : State) (before : Option Session) (ts us : List Token) (k : FaultK
       by (inr (inr (inr (inl e)))) = subst As e h
       by (inr (inr (inr (inr e)))) = subst As e h
 
-too_many_of : (ls : List (List Token)) (before : Option Session) (ts : List Token) → MakeSession ls before → AreMany before ts → (S : Session) × IsSession ls S × AreTooMany S ts
-too_many_of ls None ts made many = absurd many
-too_many_of ls (Some S) ts made many = (S, made, many)
+cause_of : (Is : Session → List Token → Type 0) (k : FaultKind) → ((S : Session) (ts : List Token) → Causes (Some S) k ts → Is S ts)
+    → (ls : List (List Token)) (before : Option Session) (ts : List Token) → MakeSession ls before → Causes before k ts → (S : Session) × IsSession ls S × Is S ts
+cause_of Is k is ls None ts made cause = absurd cause
+cause_of Is k is ls (Some S) ts made cause = (S, made, is S ts cause)
 
 terms_narrow : {S : Session} {ts : List Token} {f : Terms} → HasTerms S ts f → EndsNarrow ts
 terms_narrow (grammar.terms d) = expression_narrow d
@@ -122,13 +123,13 @@ kind_highest bytes place H e = record {
   byte_over_others = λ stands. bad_there stands K.rest K.all K.at K.blames;
   syntax_over_number = λ is. let x = number_follows s0 w.session (toks K.before) (toks K.rest) place.kind fits is in (x.0, (w.session, made, subst (λ ts. MayFollow w.session ts (Number x.0)) (sym before_it) x.1));
   syntax_over_word = λ is. let x = word_follows s0 w.session (toks K.before) (toks K.rest) place.kind fits is in (x.0, (w.session, made, subst (λ ts. MayFollow w.session ts (Word x.0)) (sym before_it) x.1));
-  syntax_over_arity = λ is stands. let at = there (Sign closing) stands in let x = fit kinds.Arity is (at.0, at.1) in (x.0, x.1, before_it ∙ x.2);
+  syntax_over_arity = λ is t stands. cause_there HaveWrongArity kinds.Arity (λ S ts h. h) t stands (fit kinds.Arity is);
   prime_over_wide = λ is ring. let x = fit kinds.Wide is in ring_first w.session l w.found ring.0 (ap tokens_of (sym line_same) ∙ ring.1) w.wrong (λ syntax. absurd (let same = sym is ∙ sym kind_same ∙ syntax in cc)) x.0;
   vars_over_taken = λ is ring. let x = fit kinds.Taken is in early (ring_first w.session l w.found ring.0 (ap tokens_of (sym line_same) ∙ ring.1) w.wrong (λ syntax. absurd (let same = sym is ∙ sym kind_same ∙ syntax in cc))) x.1;
-  taken_and_large_over_many = λ is t stands. many_there t stands (fit kinds.Many is);
+  taken_and_large_over_many = λ is t stands. cause_there AreTooMany kinds.Many (λ S ts h. h) t stands (fit kinds.Many is);
   wide_over_large = λ is n stands. narrow_there n (there (Number n) stands) (fit kinds.Large is);
   wide_over_range = λ is n stands. let x = fit kinds.Range is in narrow_there n (there (Number n) stands) x.1;
-  wide_over_many = λ is n stands. let x = many_there (Number n) stands (fit kinds.Many is) in many_narrow x.2 n (tokens_to place bytes) refl;
+  wide_over_many = λ is n stands. let x = cause_there AreTooMany kinds.Many (λ S ts h. h) (Number n) stands (fit kinds.Many is) in many_narrow x.2 n (tokens_to place bytes) refl;
 }
   where
     w : FirstWrong 1 None (lines bytes) place
@@ -204,9 +205,10 @@ kind_highest bytes place H e = record {
     narrow_there : (n : ℕ) → (us : List Token) × (toks K.rest ≡ Number n ∷ us) → Said.BeginsNarrow (toks K.rest) → n < 2 ^ 32
     narrow_there n (us, is) narrow = subst Said.BeginsNarrow is narrow
 
-    many_there : (t : Token) → StandsAt place bytes t → Said.Fits s0 (behind_lines w.session) kinds.Many (toks K.before) (toks K.rest) → (S : Session) × IsSession (lines_to place bytes) S × AreTooMany S (tokens_to place bytes ++ t ∷ [])
-    many_there t stands (u, us, e, many) =
+    cause_there : (Is : Session → List Token → Type 0) (k : FaultKind) → ((S : Session) (ts : List Token) → Causes (Some S) k ts → Is S ts) → (t : Token) → StandsAt place bytes t → Said.Caused s0 (behind_lines w.session) k (toks K.before) (toks K.rest)
+        → (S : Session) × IsSession (lines_to place bytes) S × Is S (tokens_to place bytes ++ t ∷ [])
+    cause_there Is k is t stands (u, us, e, cause) =
         let x = there t stands in
         let same : u ≡ t = (let firsts = sym e ∙ x.1 in cc) in
         let tokens : toks K.before ++ u ∷ [] ≡ tokens_to place bytes ++ t ∷ [] = ap (λ ts. ts ++ u ∷ []) (sym before_it) ∙ ap (λ v. tokens_to place bytes ++ v ∷ []) same in
-        too_many_of _ w.session _ made (subst (AreMany w.session) tokens many)
+        cause_of Is k is _ w.session _ made (subst (Causes w.session k) tokens cause)

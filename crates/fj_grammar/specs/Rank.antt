@@ -6,7 +6,7 @@ use Rattle.fj_script.specs.declared.fault.FaultKind.{FaultKind}
 use Rattle.fj_script.specs.declared.fault.FaultKind.TheVariants as kinds
 use Rattle.fj_grammar.specs.Beginning.{CanGoOnWith, IsDoomed, MakeSession}
 use Rattle.fj_grammar.specs.FirstFault.{HasStatements, line_at, tokens_before}
-use Rattle.fj_grammar.specs.Grammar.{AreListed, HasTerms, IsNew, IsSession, tokens_of}
+use Rattle.fj_grammar.specs.Grammar.{AreListed, HasTerms, IsCoordinate, IsNew, IsSession, tokens_of}
 use Rattle.fj_script.specs.Items.{comma, equals}
 use Rattle.fj_script.specs.Script.{lines, script}
 use Rattle.fj_script.specs.Session.{Session, Terms, terms_in}
@@ -51,14 +51,21 @@ pub data AreTooMany (S : Session) : List Token → Type 0 where
   generator_terms : {name : List ℕ} {ts : List Token} {fs : List Terms} → IsNew S name → AreListed (HasTerms S) ts fs → length fs ≤ 64 → 1000000 < S.terms + terms_in fs
       → AreTooMany S (Word (codes "ideal") ∷ Word name ∷ Sign equals ∷ Sign opening ∷ ts)
 
+-- Tokens up to a comma behind a coordinate for each variable, or up to a parenthesis behind too few, in a line behind this session.
+pub data HaveWrongArity (S : Session) : List Token → Type 0 where
+  too_many : {name : List ℕ} {ts : List Token} {cs : List ℕ} → IsNew S name → AreListed (IsCoordinate S.prime) ts cs → length cs ≡ length S.variables
+      → HaveWrongArity S (Word (codes "point") ∷ Word name ∷ Sign equals ∷ Sign opening ∷ ts ++ Sign comma ∷ [])
+  too_few : {name : List ℕ} {ts : List Token} {cs : List ℕ} → IsNew S name → AreListed (IsCoordinate S.prime) ts cs → length cs < length S.variables
+      → HaveWrongArity S (Word (codes "point") ∷ Word name ∷ Sign equals ∷ Sign opening ∷ ts ++ Sign closing ∷ [])
+
 -- Of two kinds that could stand at one place the lower one is told only where the higher one doesn't stand.
 pub record IsHighest (bytes : List ℕ) (place : Fault) : Type 0 where
   pub byte_over_others : StandsAt place bytes BadByte → place.kind ≡ kinds.Byte
   -- where something is wrong with a number, a number may stand, and where something is wrong with a word, a word
   pub syntax_over_number : IsOfNumber place.kind → (n : ℕ) × MayStandAt place bytes (Number n)
   pub syntax_over_word : IsOfWord place.kind → (w : List ℕ) × MayStandAt place bytes (Word w)
-  -- a closing parenthesis behind too few coordinates stands behind a number
-  pub syntax_over_arity : place.kind ≡ kinds.Arity → StandsAt place bytes (Sign closing) → (n : ℕ) × (ts : List Token) × (tokens_to place bytes ≡ ts ++ Number n ∷ [])
+  -- and where the number of coordinates is wrong, a comma or a parenthesis
+  pub syntax_over_arity : place.kind ≡ kinds.Arity → (t : Token) → StandsAt place bytes t → (S : Session) × IsSession (lines_to place bytes) S × HaveWrongArity S (tokens_to place bytes ++ t ∷ [])
   -- no number of the ring's line is Wide
   pub prime_over_wide : place.kind ≡ kinds.Wide → BeginsWith place bytes (codes "ring") → ⊥
   -- a number that is Large, that is out of range, or with which there are too many terms isn't wide
