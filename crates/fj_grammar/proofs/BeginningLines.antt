@@ -20,6 +20,7 @@ use Rattle.fj_script.specs.Names as names
 use Rattle.fj_script.specs.Numbers as numbers
 use Rattle.fj_script.specs.Question as question
 use Rattle.fj_script.specs.Question.{Target}
+use Rattle.fj_grammar.specs.Large.{HasLarge}
 use Rattle.fj_grammar.specs.Rank.{AreTooMany, HaveWrongArity}
 use Rattle.fj_script.specs.Session.{Session, Value, ask, kind}
 use Rattle.fj_grammar.proofs.Beginnings.{Fits, Numbers, Reached, Reading, Sayings, SoFar, Took, Words, behind, late, number_narrow, numbers_at, read, reading_if, reading_next, sound, stuck, then_reading, toks, words_at, wrong_token}
@@ -37,6 +38,7 @@ abbrev pub Causes : Option Session → FaultKind → List Token → Type 0
 Causes None k ts = ⊥
 Causes (Some S) kinds.Many ts = AreTooMany S ts
 Causes (Some S) kinds.Arity ts = HaveWrongArity S ts
+Causes (Some S) kinds.Large ts = HasLarge S ts
 Causes (Some S) k ts = Unit {0}
 
 abbrev Ringed : Option Session → Type 0

@@ -29,6 +29,8 @@ use Rattle.fj_grammar.specs.Grammar.{AreListed, HasTerms, IsCoordinate, IsNew, I
 use Rattle.fj_script.specs.Items.{at_end, comma, enclosed, equals, listed, more, narrow, sign}
 use Rattle.fj_script.specs.LineFault.{Answer, ◌>>=◌, fault_at, fault_of, not_here}
 use Rattle.fj_script.specs.Names as names
+use Rattle.fj_grammar.specs.Large as large
+use Rattle.fj_grammar.specs.Large.{HasLarge, IsLargeIn}
 use Rattle.fj_grammar.specs.Rank as rank
 use Rattle.fj_grammar.specs.Rank.{AreTooMany}
 use Rattle.fj_script.specs.Session.{Session, Terms, Ideal, Point, declare, terms_in}
@@ -38,7 +40,7 @@ use Rattle.fj_grammar.proofs.BeginningLines.{MayStand, behind_lines, narrow_read
 use Rattle.fj_grammar.proofs.Continuations.{other_word, other_word-is}
 use Rattle.fj_grammar.proofs.FineValues.{IsFine, fine_constant}
 use Rattle.fj_grammar.proofs.GrammarPieces.{new_name_takes, new_word}
-use Rattle.fj_grammar.proofs.Meanings.{among_variables, expression_along, in_session}
+use Rattle.fj_grammar.proofs.Meanings.{among_variables, expression_along, in_session, large_along}
 use Rattle.fj_script.proofs.NewNames.{unlike}
 
 -- one item more
@@ -154,20 +156,20 @@ module _ (s0 : State) (S : Session) (known : Contains primes S.prime) (some_vari
   zero_terms : GoesOnTerms []
   zero_terms = (Number 0 ∷ [], _, (grammar.terms (expressions.first (expressions.factor (expressions.atom (expressions.number (omega arith))))), few_terms _ (fine_constant (IsField-prime_field S.prime known) 0)))
 
-  terms_reading : (ws : List Token) (t : State) → SoFar s0 (behind_lines (Some S)) ws t → ((us : List Token) → GoesOnTerms us → MayStand (Some S) (ws ++ us)) → Reading s0 (behind_lines (Some S)) (λ e. e) IsRead ws (declaration.expression S t)
+  terms_reading : (ws : List Token) (t : State) → SoFar s0 (behind_lines (Some S)) ws t → ((us : List Token) → GoesOnTerms us → MayStand (Some S) (ws ++ us)) → ((us : List Token) → IsLargeIn S us → HasLarge S (ws ++ us)) → Reading s0 (behind_lines (Some S)) (λ e. e) IsRead ws (declaration.expression S t)
   unfolding declaration.expression
-  terms_reading ws t H K =
+  terms_reading ws t H K C =
       by (text.expression (prime_field S.prime) (names.meaning S) t)
-      (expression_reading (IsField-prime_field S.prime known) (names.meaning S) s0 (behind_lines (Some S)) tt variable_known.0 variable_known.1 variable_known.2 ws t H (λ us g. K us (g.0, terms_falling grevlex_key g.1, read_whole g.1 (us ++ g.0) g.2)))
+      (expression_reading (IsField-prime_field S.prime known) (names.meaning S) s0 (behind_lines (Some S)) tt variable_known.0 variable_known.1 variable_known.2 ws t H (λ us g. K us (g.0, terms_falling grevlex_key g.1, read_whole g.1 (us ++ g.0) g.2)) (λ us g. C us (large_along (among_variables S) g)))
     where
       by : (r : text.Answer Polynomial) → Reading s0 (behind_lines (Some S)) fault_of (Whole (IsField-prime_field S.prime known) (names.meaning S) 64) ws r → Reading s0 (behind_lines (Some S)) (λ e. e) IsRead ws (declaration.of_text r)
       by r (read {x = f} us h Hu) = read us (read_whole f us h) Hu
       by r (stuck Hu) = stuck Hu
 
-  counted_reading : (terms : ℕ) (ws : List Token) (t : State) → SoFar s0 (behind_lines (Some S)) ws t → ((us : List Token) → GoesOnTerms us → MayStand (Some S) (ws ++ us)) → ((us : List Token) (f : Terms) → IsRead f us → 1000000 < terms + length f → AreTooMany S (ws ++ us)) → Reading s0 (behind_lines (Some S)) (λ e. e) IsRead ws (declaration.counted S terms t)
+  counted_reading : (terms : ℕ) (ws : List Token) (t : State) → SoFar s0 (behind_lines (Some S)) ws t → ((us : List Token) → GoesOnTerms us → MayStand (Some S) (ws ++ us)) → ((us : List Token) → IsLargeIn S us → HasLarge S (ws ++ us)) → ((us : List Token) (f : Terms) → IsRead f us → 1000000 < terms + length f → AreTooMany S (ws ++ us)) → Reading s0 (behind_lines (Some S)) (λ e. e) IsRead ws (declaration.counted S terms t)
   unfolding declaration.counted
-  counted_reading terms ws t H K many =
-      then_reading s0 (behind_lines (Some S)) (λ e. e) _ (terms_reading ws t H K)
+  counted_reading terms ws t H K C many =
+      then_reading s0 (behind_lines (Some S)) (λ e. e) _ (terms_reading ws t H K C)
       (λ f us u h Hu. reading_if s0 (behind_lines (Some S)) (λ e. e) (ltb 1000000 (terms + length f)) _ _ (λ e. stuck (late s0 (behind_lines (Some S)) Hu (caused s0 (behind_lines (Some S)) kinds.Many Hu (many us f h (ltb-true 1000000 (terms + length f) e))))) (λ _. read us h Hu))
 
   new_in_bare : (name : List ℕ) → IsNew S name → IsNew (bare S) name
@@ -227,7 +229,7 @@ module _ (s0 : State) (S : Session) (known : Contains primes S.prime) (some_vari
   poly_stopped t H =
       stop_then s0 (behind_lines (Some S)) _ (name_equals_reading (codes "poly") (inl refl) t H poly_begins (λ name new. poly_goes name [] new zero_terms))
       (λ name us u h Hu. let Hn = subst (λ ws. SoFar s0 (behind_lines (Some S)) (Word (codes "poly") ∷ ws) u) h.0 Hu in
-      stop_then s0 (behind_lines (Some S)) _ (counted_reading S.terms (Word (codes "poly") ∷ Word name ∷ Sign equals ∷ []) u Hn (λ vs g. inl (poly_goes name vs h.1 g)) (λ vs f k many. rank.terms h.1 (of_bare k.0) many))
+      stop_then s0 (behind_lines (Some S)) _ (counted_reading S.terms (Word (codes "poly") ∷ Word name ∷ Sign equals ∷ []) u Hn (λ vs g. inl (poly_goes name vs h.1 g)) (λ vs g. large.poly h.1 g) (λ vs f k many. rank.terms h.1 (of_bare k.0) many))
       (λ f vs w k Hw. stop_end s0 (behind_lines (Some S)) _ _ w Hw (inl (poly_goes name vs h.1 ([], f, subst (IsRead f) (sym (append-nil vs)) k)))))
 
   -- `ideal`
@@ -286,14 +288,15 @@ module _ (s0 : State) (S : Session) (known : Contains primes S.prime) (some_vari
         behind s0 (behind_lines (Some S)) (λ e. e) {Q = IsRead} (Word (codes "ideal") ∷ Word name ∷ Sign equals ∷ Sign opening ∷ []) (us ++ Sign comma ∷ []) _
         (counted_reading (S.terms + terms_in fs) (Word (codes "ideal") ∷ Word name ∷ Sign equals ∷ Sign opening ∷ (us ++ Sign comma ∷ [])) t H
         (λ vs g. inl (subst (λ ws. CanGoOn (Some S) (Word (codes "ideal") ∷ Word name ∷ Sign equals ∷ Sign opening ∷ ws)) (sym (regroup us vs (Sign comma)))
-        (ideal_goes name (us ++ Sign comma ∷ vs) g.0 (fs ++ g.1 ∷ []) new (subst (Generators (fs ++ g.1 ∷ [])) (sym (append_assoc us (Sign comma ∷ vs) g.0)) (generators_more fs us (vs ++ g.0) g.1 l room g.2))))) (too_many_more fs us l room))
+        (ideal_goes name (us ++ Sign comma ∷ vs) g.0 (fs ++ g.1 ∷ []) new (subst (Generators (fs ++ g.1 ∷ [])) (sym (append_assoc us (Sign comma ∷ vs) g.0)) (generators_more fs us (vs ++ g.0) g.1 l room g.2)))))
+        (λ vs g. subst (λ ws. HasLarge S (Word (codes "ideal") ∷ Word name ∷ Sign equals ∷ Sign opening ∷ ws)) (sym (regroup us vs (Sign comma))) (large.generator new (all_of_bare l.0) room g)) (too_many_more fs us l room))
         (λ f vs h. subst (Generators (fs ++ f ∷ [])) (sym (regroup us vs (Sign comma))) (generators_more fs us vs f l room h)))
 
     generator_first : (t : State) → SoFar s0 (behind_lines (Some S)) (Word (codes "ideal") ∷ Word name ∷ Sign equals ∷ Sign opening ∷ []) t
         → Reading s0 (behind_lines (Some S)) (λ e. e) (λ f ws. Generators (f ∷ []) ws) (Word (codes "ideal") ∷ Word name ∷ Sign equals ∷ Sign opening ∷ []) (declaration.generator S [] t)
     unfolding declaration.generator
     generator_first t H =
-        then_reading_value (counted_reading (S.terms + terms_in []) (Word (codes "ideal") ∷ Word name ∷ Sign equals ∷ Sign opening ∷ []) t H (λ vs g. inl (ideal_goes name vs g.0 (g.1 ∷ []) new (generators_one (vs ++ g.0) g.1 g.2)))
+        then_reading_value (counted_reading (S.terms + terms_in []) (Word (codes "ideal") ∷ Word name ∷ Sign equals ∷ Sign opening ∷ []) t H (λ vs g. inl (ideal_goes name vs g.0 (g.1 ∷ []) new (generators_one (vs ++ g.0) g.1 g.2))) (λ vs g. large.first_generator new g)
         (λ vs f h many. let one = terms_more [] f in rank.generator_terms new (grammar.last (of_bare h.0)) (omega arith) (omega (arith, many, one))))
       where
         then_reading_value : {r : Answer Terms} → Reading s0 (behind_lines (Some S)) (λ e. e) IsRead (Word (codes "ideal") ∷ Word name ∷ Sign equals ∷ Sign opening ∷ []) r

@@ -2,9 +2,9 @@
 use Rattle.std.proofs.Common.{◌≡◌, ℕ, zero, suc, ◌%◌, ◌^◌, ◌<◌, ◌≤◌, Bool, true, false, cond, eqb, ltb, List, [], ◌∷◌, ◌++◌, length, map, Option, Some, None, Result, Ok, Err, refl, sym, ap, ◌∙◌, subst, arith, append_assoc, inl, inr, ◌⊎◌}
 use Rattle.std.specs.FinMap.{empty}
 use Rattle.std.specs.Option.{option_map, option_map_or}
-use Rattle.std.proofs.lemmas.Bool.{eqb-true, leb-false, ltb-false}
+use Rattle.std.proofs.lemmas.Bool.{eqb-true, leb-false, ltb-false, ltb-true}
 use Rattle.std.proofs.lemmas.List.{append-nil, append_cancel_left, length-append, map-append}
-use Rattle.std.proofs.lemmas.Option.{same_Some}
+use Rattle.std.proofs.lemmas.Option.{none-some, same_Some}
 use Rattle.fj_coeff.specs.Field.{Field, IsField}
 use Rattle.fj_theory.specs.Exponents.{origin}
 use Rattle.fj_theory.specs.PointIdeal.{variable_exponents}
@@ -19,11 +19,13 @@ use Rattle.fj_text.specs.Grammar as grammar
 use Rattle.fj_text.specs.Grammar.{IsAtom, IsExpression, IsFactor, IsTerm, IsWithinLimits}
 use Rattle.fj_text.specs.State.{State, after, after_sign, blame, end_of, is_the_sign, next, unexpected}
 use Rattle.fj_text.specs.Token.{Token, Word, Number, Sign, BadByte, Placed, caret, closing, minus, opening, plus, star}
-use Rattle.fj_text.proofs.Grammars.{IsPolynomial-factor, power-small, within-small}
+use Rattle.fj_text.proofs.Grammars.{IsPolynomial-factor, power-small, small-power, small-within, within-small}
 use Rattle.fj_script.specs.declared.fault.FaultKind.{FaultKind}
 use Rattle.fj_script.specs.declared.fault.FaultKind.TheVariants as kinds
 use Rattle.fj_script.specs.declared.fault.LineFault.{LineFault}
 use Rattle.fj_script.specs.LineFault.{◌>>=◌, fault_of, kind_of}
+use Rattle.fj_grammar.specs.Large as large
+use Rattle.fj_grammar.specs.Large.{IsLargeAtom, IsLargeExpression, IsLargeFactor, IsLargeTerm}
 use Rattle.fj_grammar.proofs.ExpressionEnds.{EndsNarrow, IsNarrow, exponent_narrow, factor_narrow, narrow_behind, term_narrow}
 use Rattle.fj_grammar.proofs.FineValues.{IsFine, fine_constant, fine_empty, fine_negation, fine_one, fine_variable, negation_empty, zero_is_empty}
 
@@ -171,7 +173,7 @@ module _ (s0 : State) (V : Sayings) where
   Fits kinds.Byte ts us = Unit {0}
   Fits kinds.Syntax ts us = Unit {0}
   Fits kinds.NoRing ts us = Unit {0}
-  Fits kinds.Large ts us = BeginsNarrow us
+  Fits kinds.Large ts us = BeginsNarrow us × Caused kinds.Large ts us
   Fits kinds.Arity ts us = Caused kinds.Arity ts us
 
   -- A fault stands at its column, and the tokens before it can go on.
@@ -320,9 +322,9 @@ module _ (s0 : State) (V : Sayings) where
       by None e rec = read us w H
       by (Some r) e rec = then_reading fault_of (λ r. text.repeat turn n r.0 r.1) (each x us t r w H e) (λ y vs u k K. rec y vs u k K)
 
-  formed_reading : {W : Polynomial → List Token → Type 0} (ts us : List Token) (o : Option Polynomial) (u : State) → SoFar (ts ++ us) u → EndsNarrow us → ((f : Polynomial) → o ≡ Some f → W f us) → Reading fault_of W ts (text.formed o u)
-  formed_reading ts us None u H ends w = stuck (late H (narrow_at ts us H ends))
-  formed_reading ts us (Some f) u H ends w = read us (w f refl) H
+  formed_reading : {W : Polynomial → List Token → Type 0} (ts us : List Token) (o : Option Polynomial) (u : State) → SoFar (ts ++ us) u → EndsNarrow us → (o ≡ None → V.Cause kinds.Large (ts ++ us)) → ((f : Polynomial) → o ≡ Some f → W f us) → Reading fault_of W ts (text.formed o u)
+  formed_reading ts us None u H ends large w = stuck (late H (narrow_at ts us H ends, caused kinds.Large H (large refl)))
+  formed_reading ts us (Some f) u H ends large w = read us (w f refl) H
 
 module _ {F : Field} (L : IsField F) (meaning : List ℕ → Meaning) where
   abbrev pub Atom : ℕ → Polynomial → List Token → Type 0
@@ -421,28 +423,34 @@ module _ {F : Field} (L : IsField F) (meaning : List ℕ → Meaning) where
   fine_power f h (suc zero) limits = subst (IsFine F) (sym (power_first L h.polynomial)) h
   fine_power f h (suc (suc k)) limits = record { polynomial = IsPolynomial-power L h.polynomial (suc (suc k)); within = limits (suc (suc k)) (omega arith) (omega arith) }
 
+  none_within : {f : Polynomial} → text.within f ≡ None → IsWithinLimits f → ⊥
+  none_within {f} none small = none-some _ (sym none ∙ small-within f small)
+
   -- ---- what is read of an expression, where its beginnings can go on
 
   module _ (s0 : State) (V : Sayings) (ring : V.HasRing) (name : List ℕ) (place : ℕ) (named : meaning name ≡ meanings.Variable place) where
+    abbrev TooLarge : List Token → Type 0
+    TooLarge us = V.Cause kinds.Large us
+
     -- What is read behind an opening parenthesis.
     abbrev Inside : ℕ → Type 0
     Inside d = (ts : List Token) (u : State) (H : SoFar s0 V ts u) → IsNarrow H.reached.last.token → ((us : List Token) → GoesOnFactor d (Sign opening ∷ us) → V.Goes (ts ++ us))
-        → Reading s0 V fault_of (λ f us. Atom d f (Sign opening ∷ us)) ts (text.parenthesised F meaning d u)
+        → ((us : List Token) → IsLargeAtom F meaning d (Sign opening ∷ us) → TooLarge (ts ++ us)) → Reading s0 V fault_of (λ f us. Atom d f (Sign opening ∷ us)) ts (text.parenthesised F meaning d u)
 
     at_once : (ts : List Token) → V.Goes (ts ++ []) → V.Goes ts
     at_once ts v = subst V.Goes (append-nil ts) v
 
-    behind_one : (ts us : List Token) (tok : Token) → V.Goes (ts ++ tok ∷ us) → V.Goes ((ts ++ tok ∷ []) ++ us)
-    behind_one ts us tok v = subst V.Goes (sym (append_assoc ts (tok ∷ []) us)) v
+    behind_one : (Is : List Token → Type 0) (ts us : List Token) (tok : Token) → Is (ts ++ tok ∷ us) → Is ((ts ++ tok ∷ []) ++ us)
+    behind_one Is ts us tok v = subst Is (sym (append_assoc ts (tok ∷ []) us)) v
 
-    behind_more : (ts us vs : List Token) (tok : Token) → V.Goes (ts ++ (us ++ tok ∷ vs)) → V.Goes ((ts ++ (us ++ tok ∷ [])) ++ vs)
-    behind_more ts us vs tok v = subst V.Goes (sym (append_assoc ts (us ++ tok ∷ []) vs ∙ ap (λ ws. ts ++ ws) (append_assoc us (tok ∷ []) vs))) v
+    behind_more : (Is : List Token → Type 0) (ts us vs : List Token) (tok : Token) → Is (ts ++ (us ++ tok ∷ vs)) → Is ((ts ++ (us ++ tok ∷ [])) ++ vs)
+    behind_more Is ts us vs tok v = subst Is (sym (append_assoc ts (us ++ tok ∷ []) vs ∙ ap (λ ws. ts ++ ws) (append_assoc us (tok ∷ []) vs))) v
 
     module _ (d : ℕ) (I : Inside d) where
-      atom_reading : (ts : List Token) (t : State) → SoFar s0 V ts t → ((us : List Token) → GoesOnFactor d us → V.Goes (ts ++ us))
+      atom_reading : (ts : List Token) (t : State) → SoFar s0 V ts t → ((us : List Token) → GoesOnFactor d us → V.Goes (ts ++ us)) → ((us : List Token) → IsLargeAtom F meaning d us → TooLarge (ts ++ us))
           → Reading s0 V fault_of (Atom d) ts (text.atom F meaning (text.parenthesised F meaning d) t)
       unfolding text.atom text.atom_of text.constant text.variable
-      atom_reading ts t H K = reading_next s0 V fault_of (λ t. text.atom_of F meaning (text.parenthesised F meaning d) t.0 t.1) (unexpected t) refl H.reached (at_once ts (K [] (factor_default d))) each
+      atom_reading ts t H K C = reading_next s0 V fault_of (λ t. text.atom_of F meaning (text.parenthesised F meaning d) t.0 t.1) (unexpected t) refl H.reached (at_once ts (K [] (factor_default d))) each
         where
           a_number : Numbers s0 V ts
           a_number = (ring, 0, inl (K (Number 0 ∷ []) (atom_ends d (Number 0 ∷ []) (term (0 % F.characteristic) origin) (grammar.number (omega arith), fine_constant L 0))))
@@ -464,14 +472,14 @@ module _ {F : Field} (L : IsField F) (meaning : List ℕ → Meaning) where
           each (Sign s) u Hu =
               reading_if s0 V fault_of (eqb s opening) _ _
               (λ e. let Ho = subst (λ n. SoFar s0 V (ts ++ Sign n ∷ []) u) (eqb-true s opening e) (sound s0 V ts (Sign s) tt Hu) in
-              behind s0 V fault_of ts (Sign opening ∷ []) _ (I (ts ++ Sign opening ∷ []) u Ho (narrow_at s0 V ts (Sign opening ∷ []) Ho (record { front = []; last = Sign opening; whole = refl; narrow = tt })) (λ us g. behind_one ts us (Sign opening) (K (Sign opening ∷ us) g))) (λ f us h. h))
+              behind s0 V fault_of ts (Sign opening ∷ []) _ (I (ts ++ Sign opening ∷ []) u Ho (narrow_at s0 V ts (Sign opening ∷ []) Ho (record { front = []; last = Sign opening; whole = refl; narrow = tt })) (λ us g. behind_one V.Goes ts us (Sign opening) (K (Sign opening ∷ us) g)) (λ us g. behind_one TooLarge ts us (Sign opening) (C (Sign opening ∷ us) g))) (λ f us h. h))
               (λ e. stuck (wrong_token s0 V ts (Sign s) Hu))
 
-      factor_reading : (ts : List Token) (t : State) → SoFar s0 V ts t → ((us : List Token) → GoesOnFactor d us → V.Goes (ts ++ us))
+      factor_reading : (ts : List Token) (t : State) → SoFar s0 V ts t → ((us : List Token) → GoesOnFactor d us → V.Goes (ts ++ us)) → ((us : List Token) → IsLargeFactor F meaning d us → TooLarge (ts ++ us))
           → Reading s0 V fault_of (Factor d) ts (text.factor F meaning (text.parenthesised F meaning d) t)
       unfolding text.factor text.exponent_of
-      factor_reading ts t H K =
-          then_reading s0 V fault_of _ (atom_reading ts t H K)
+      factor_reading ts t H K C =
+          then_reading s0 V fault_of _ (atom_reading ts t H K (λ us g. C us (large.atom g)))
           (λ f us u h Hu. reading_sign s0 V fault_of caret _ _ Hu.reached (K us (atom_ends d us f h)) (λ v Hv. raised f us h v (regrouped s0 V ts us (Sign caret ∷ []) Hv)) (read us (grammar.atom h.0, h.1) Hu))
         where
           Exponent : List Token → ℕ → List Token → Type 0
@@ -489,7 +497,8 @@ module _ {F : Field} (L : IsField F) (meaning : List ℕ → Meaning) where
           exponent f us h (Number k) w Ho =
               let Hw = sound s0 V (ts ++ (us ++ Sign caret ∷ [])) (Number k) tt Ho in
               reading_if s0 V fault_of (text.is_wide k) _ _ (λ _. stuck (late s0 V Hw (numbers_at s0 V Hw refl (a_number f us h))))
-              (λ fits. reading_if s0 V fault_of (ltb 1000 k) _ _ (λ _. stuck (late s0 V Hw (number_narrow s0 V (ts ++ (us ++ Sign caret ∷ [])) Hw refl (leb-false (2 ^ 32) k fits))))
+              (λ fits. reading_if s0 V fault_of (ltb 1000 k) _ _ (λ much. let few = leb-false (2 ^ 32) k fits in
+              stuck (late s0 V Hw (number_narrow s0 V (ts ++ (us ++ Sign caret ∷ [])) Hw refl few, caused s0 V kinds.Large Hw (behind_more TooLarge ts us (Number k ∷ []) (Sign caret) (C (us ++ Sign caret ∷ Number k ∷ []) (large.exponent h.0 (ltb-true 1000 k much) few))))))
               (λ e. read (us ++ Sign caret ∷ Number k ∷ []) (refl, ltb-false _ _ e)
               (subst (λ ws. SoFar s0 V ws w) (append_assoc ts (us ++ Sign caret ∷ []) (Number k ∷ []) ∙ ap (λ ws. ts ++ ws) (append_assoc us (Sign caret ∷ []) (Number k ∷ []))) Hw)))
 
@@ -498,14 +507,14 @@ module _ {F : Field} (L : IsField F) (meaning : List ℕ → Meaning) where
           raised f us h v Hv =
               then_reading s0 V fault_of (λ k. text.formed (text.power_within F f k.0) k.1)
               (reading_next s0 V fault_of {Q = Exponent us} {ts = ts} (λ t. text.exponent_of t.0 t.1) (unexpected v) refl Hv.reached (K (us ++ Sign caret ∷ []) (atom_raised d us f h)) (exponent f us h))
-              (λ k vs w q Hw. formed_reading s0 V ts vs (text.power_within F f k) w Hw (subst EndsNarrow (sym q.0) (exponent_narrow us k q.1))
+              (λ k vs w q Hw. formed_reading s0 V ts vs (text.power_within F f k) w Hw (subst EndsNarrow (sym q.0) (exponent_narrow us k q.1)) (λ none. C vs (subst (IsLargeFactor F meaning d) (sym q.0) (large.raised h.0 q.1 (λ small. absurd (none-some _ (sym none ∙ small-power L h.1.polynomial k small))))))
               (λ g e. let p = power-small L h.1.polynomial k g e in
               subst (λ ws. Factor d g ws) (sym q.0) (subst (λ y. Factor d y (us ++ Sign caret ∷ Number k ∷ [])) (sym p.0) (grammar.raised h.0 q.1 p.1, fine_power f h.1 k p.1))))
 
-      times_reading : (ts : List Token) → ((us : List Token) → GoesOnTerm d us → V.Goes (ts ++ us)) → (x : Polynomial) (us : List Token) (t : State) (r : text.Answer Polynomial) → Term d x us → SoFar s0 V (ts ++ us) t
+      times_reading : (ts : List Token) → ((us : List Token) → GoesOnTerm d us → V.Goes (ts ++ us)) → ((us : List Token) → IsLargeTerm F meaning d us → TooLarge (ts ++ us)) → (x : Polynomial) (us : List Token) (t : State) (r : text.Answer Polynomial) → Term d x us → SoFar s0 V (ts ++ us) t
           → text.times_factor F meaning (text.parenthesised F meaning d) x t ≡ Some r → Reading s0 V fault_of (Term d) ts r
       unfolding text.times_factor
-      times_reading ts K x us t r w H e = by (after_sign star t) refl e
+      times_reading ts K C x us t r w H e = by (after_sign star t) refl e
         where
           turn : State → text.Answer Polynomial
           turn v = text.factor F meaning (text.parenthesised F meaning d) v >>= λ g. text.formed (text.within (product F x g.0)) g.1
@@ -517,30 +526,30 @@ module _ {F : Field} (L : IsField F) (meaning : List ℕ → Meaning) where
           by None is h = absurd cc
           by (Some v) is h =
               let Hv = regrouped s0 V ts us (Sign star ∷ []) (sign_taken s0 V star t v H.reached (K us (term_ends d us x w)) is) in
-              let factor = factor_reading (ts ++ (us ++ Sign star ∷ [])) v Hv (λ vs g. behind_more ts us vs (Sign star) (K (us ++ Sign star ∷ vs) (term_goes d us vs x w g))) in
+              let factor = factor_reading (ts ++ (us ++ Sign star ∷ [])) v Hv (λ vs g. behind_more V.Goes ts us vs (Sign star) (K (us ++ Sign star ∷ vs) (term_goes d us vs x w g))) (λ vs g. behind_more TooLarge ts us vs (Sign star) (C (us ++ Sign star ∷ vs) (large.later w.0 g))) in
               let whole = behind s0 V fault_of {Q = Factor d} {R = Behind} ts (us ++ Sign star ∷ []) _ factor (λ g vs k. (vs, append_assoc us (Sign star ∷ []) vs, k)) in
               subst (Reading s0 V fault_of (Term d) ts) (same_Some _ _ h)
               (then_reading s0 V fault_of (λ g. text.formed (text.within (product F x g.0)) g.1) whole
-              (λ g ws z k Hz. formed_reading s0 V ts ws (text.within (product F x g)) z Hz (subst EndsNarrow (sym k.1) (narrow_behind us (Sign star ∷ k.0) (narrow_behind (Sign star ∷ []) k.0 (factor_narrow k.2.0))))
+              (λ g ws z k Hz. formed_reading s0 V ts ws (text.within (product F x g)) z Hz (subst EndsNarrow (sym k.1) (narrow_behind us (Sign star ∷ k.0) (narrow_behind (Sign star ∷ []) k.0 (factor_narrow k.2.0)))) (λ none. C ws (subst (IsLargeTerm F meaning d) (sym k.1) (large.times w.0 k.2.0 (none_within none))))
               (λ y ok. let p = within-small (product F x g) y ok in
               subst (Term d y) (sym k.1) (subst (λ a. Term d a (us ++ Sign star ∷ k.0)) p.0 (grammar.times w.0 k.2.0 p.1, record { polynomial = IsPolynomial-product L w.1.polynomial k.2.1.polynomial; within = p.1 })))))
 
-      term_reading : (ts : List Token) (t : State) → SoFar s0 V ts t → ((us : List Token) → GoesOnTerm d us → V.Goes (ts ++ us))
+      term_reading : (ts : List Token) (t : State) → SoFar s0 V ts t → ((us : List Token) → GoesOnTerm d us → V.Goes (ts ++ us)) → ((us : List Token) → IsLargeTerm F meaning d us → TooLarge (ts ++ us))
           → Reading s0 V fault_of (Term d) ts (text.term_at F meaning (text.parenthesised F meaning d) t)
       unfolding text.term_at
-      term_reading ts t H K =
-          then_reading s0 V fault_of _ (factor_reading ts t H (λ us g. K us (term_of_factor d us g)))
-          (λ f us u h Hu. repeat_reading s0 V (text.times_factor F meaning (text.parenthesised F meaning d)) (Term d) ts (times_reading ts K) (length u.left) f us u (grammar.factor h.0, h.1) Hu)
+      term_reading ts t H K C =
+          then_reading s0 V fault_of _ (factor_reading ts t H (λ us g. K us (term_of_factor d us g)) (λ us g. C us (large.factor g)))
+          (λ f us u h Hu. repeat_reading s0 V (text.times_factor F meaning (text.parenthesised F meaning d)) (Term d) ts (times_reading ts K C) (length u.left) f us u (grammar.factor h.0, h.1) Hu)
 
-      first_reading : (ts : List Token) (t : State) → SoFar s0 V ts t → ((us : List Token) → GoesOn d us → V.Goes (ts ++ us))
+      first_reading : (ts : List Token) (t : State) → SoFar s0 V ts t → ((us : List Token) → GoesOn d us → V.Goes (ts ++ us)) → ((us : List Token) → IsLargeExpression F meaning d us → TooLarge (ts ++ us))
           → Reading s0 V fault_of (Whole d) ts (text.first_term F meaning (text.parenthesised F meaning d) t)
       unfolding text.first_term
-      first_reading ts t H K =
+      first_reading ts t H K C =
           reading_sign s0 V fault_of minus _ _ H.reached (at_once ts (K [] (expression_of_term d [] (term_of_factor d [] (factor_default d)))))
           (λ u Hu. then_reading s0 V fault_of (λ f. Ok (negation F f.0, f.1))
-          (behind s0 V fault_of {Q = Term d} {R = Negative} ts (Sign minus ∷ []) _ (term_reading (ts ++ Sign minus ∷ []) u Hu (λ us g. behind_one ts us (Sign minus) (K (Sign minus ∷ us) (expression_of_minus d us g)))) (λ f vs h. (vs, refl, h)))
+          (behind s0 V fault_of {Q = Term d} {R = Negative} ts (Sign minus ∷ []) _ (term_reading (ts ++ Sign minus ∷ []) u Hu (λ us g. behind_one V.Goes ts us (Sign minus) (K (Sign minus ∷ us) (expression_of_minus d us g))) (λ us g. behind_one TooLarge ts us (Sign minus) (C (Sign minus ∷ us) (large.negative g)))) (λ f vs h. (vs, refl, h)))
           (λ f ws v k Hv. read ws (subst (Whole d (negation F f)) (sym k.1) (grammar.negative k.2.0, fine_negation L k.2.1)) Hv))
-          (plain (text.term_at F meaning (text.parenthesised F meaning d) t) (term_reading ts t H (λ us g. K us (expression_of_term d us g))))
+          (plain (text.term_at F meaning (text.parenthesised F meaning d) t) (term_reading ts t H (λ us g. K us (expression_of_term d us g)) (λ us g. C us (large.first g))))
         where
           Negative : Polynomial → List Token → Type 0
           Negative f ws = (vs : List Token) × (ws ≡ Sign minus ∷ vs) × Term d f vs
@@ -549,10 +558,10 @@ module _ {F : Field} (L : IsField F) (meaning : List ℕ → Meaning) where
           plain r (read us h Hu) = read us (grammar.first h.0, h.1) Hu
           plain r (stuck Hu) = stuck Hu
 
-      plus_reading : (ts : List Token) → ((us : List Token) → GoesOn d us → V.Goes (ts ++ us)) → (x : Polynomial) (us : List Token) (t : State) (r : text.Answer Polynomial) → Whole d x us → SoFar s0 V (ts ++ us) t
+      plus_reading : (ts : List Token) → ((us : List Token) → GoesOn d us → V.Goes (ts ++ us)) → ((us : List Token) → IsLargeExpression F meaning d us → TooLarge (ts ++ us)) → (x : Polynomial) (us : List Token) (t : State) (r : text.Answer Polynomial) → Whole d x us → SoFar s0 V (ts ++ us) t
           → text.plus_term F meaning (text.parenthesised F meaning d) x t ≡ Some r → Reading s0 V fault_of (Whole d) ts r
       unfolding text.plus_term
-      plus_reading ts K x us t r w H e = by (after_sign plus t) (after_sign minus t) refl refl e
+      plus_reading ts K C x us t r w H e = by (after_sign plus t) (after_sign minus t) refl refl e
         where
           added : State → text.Answer Polynomial
           added v = text.term_at F meaning (text.parenthesised F meaning d) v >>= λ g. text.formed (text.within (sum F x g.0)) g.1
@@ -568,43 +577,43 @@ module _ {F : Field} (L : IsField F) (meaning : List ℕ → Meaning) where
 
           -- the term behind a sign
           behind_sign : (sgn : ℕ) (v : State) → after_sign sgn t ≡ Some v → ((vs : List Token) → GoesOnTerm d vs → V.Goes (ts ++ (us ++ Sign sgn ∷ vs)))
-              → Reading s0 V fault_of (Behind sgn) ts (text.term_at F meaning (text.parenthesised F meaning d) v)
-          behind_sign sgn v is goes =
+              → ((vs : List Token) → IsLargeTerm F meaning d vs → IsLargeExpression F meaning d (us ++ Sign sgn ∷ vs)) → Reading s0 V fault_of (Behind sgn) ts (text.term_at F meaning (text.parenthesised F meaning d) v)
+          behind_sign sgn v is goes larger =
               let Hv = regrouped s0 V ts us (Sign sgn ∷ []) (sign_taken s0 V sgn t v H.reached (K us (expression_ends d us x w)) is) in
-              behind s0 V fault_of {Q = Term d} {R = Behind sgn} ts (us ++ Sign sgn ∷ []) _ (term_reading (ts ++ (us ++ Sign sgn ∷ [])) v Hv (λ vs g. behind_more ts us vs (Sign sgn) (goes vs g)))
+              behind s0 V fault_of {Q = Term d} {R = Behind sgn} ts (us ++ Sign sgn ∷ []) _ (term_reading (ts ++ (us ++ Sign sgn ∷ [])) v Hv (λ vs g. behind_more V.Goes ts us vs (Sign sgn) (goes vs g)) (λ vs g. behind_more TooLarge ts us vs (Sign sgn) (C (us ++ Sign sgn ∷ vs) (larger vs g))))
               (λ g vs k. (vs, append_assoc us (Sign sgn ∷ []) vs, k))
 
           by : (o q : Option State) → after_sign plus t ≡ o → after_sign minus t ≡ q → option_map_or (λ v. Some (added v)) o (option_map less q) ≡ Some r → Reading s0 V fault_of (Whole d) ts r
           by None None is not h = absurd cc
           by (Some v) q is not h =
               subst (Reading s0 V fault_of (Whole d) ts) (same_Some _ _ h)
-              (then_reading s0 V fault_of (λ g. text.formed (text.within (sum F x g.0)) g.1) (behind_sign plus v is (λ vs g. K (us ++ Sign plus ∷ vs) (expression_plus d us vs x w g)))
-              (λ g ws z k Hz. formed_reading s0 V ts ws (text.within (sum F x g)) z Hz (behind_ends plus g k)
+              (then_reading s0 V fault_of (λ g. text.formed (text.within (sum F x g.0)) g.1) (behind_sign plus v is (λ vs g. K (us ++ Sign plus ∷ vs) (expression_plus d us vs x w g)) (λ vs g. large.behind_plus w.0 g))
+              (λ g ws z k Hz. formed_reading s0 V ts ws (text.within (sum F x g)) z Hz (behind_ends plus g k) (λ none. C ws (subst (IsLargeExpression F meaning d) (sym k.1) (large.add w.0 k.2.0 (none_within none))))
               (λ y ok. let p = within-small (sum F x g) y ok in
               subst (Whole d y) (sym k.1) (subst (λ a. Whole d a (us ++ Sign plus ∷ k.0)) p.0 (grammar.add w.0 k.2.0 p.1, record { polynomial = IsPolynomial-sum L w.1.polynomial k.2.1.polynomial; within = p.1 })))))
           by None (Some v) not is h =
               subst (Reading s0 V fault_of (Whole d) ts) (same_Some _ _ h)
-              (then_reading s0 V fault_of (λ g. text.formed (text.within (sum F x (negation F g.0))) g.1) (behind_sign minus v is (λ vs g. K (us ++ Sign minus ∷ vs) (expression_minus d us vs x w g)))
-              (λ g ws z k Hz. formed_reading s0 V ts ws (text.within (sum F x (negation F g))) z Hz (behind_ends minus g k)
+              (then_reading s0 V fault_of (λ g. text.formed (text.within (sum F x (negation F g.0))) g.1) (behind_sign minus v is (λ vs g. K (us ++ Sign minus ∷ vs) (expression_minus d us vs x w g)) (λ vs g. large.behind_minus w.0 g))
+              (λ g ws z k Hz. formed_reading s0 V ts ws (text.within (sum F x (negation F g))) z Hz (behind_ends minus g k) (λ none. C ws (subst (IsLargeExpression F meaning d) (sym k.1) (large.less w.0 k.2.0 (none_within none))))
               (λ y ok. let p = within-small (sum F x (negation F g)) y ok in
               subst (Whole d y) (sym k.1) (subst (λ a. Whole d a (us ++ Sign minus ∷ k.0)) p.0 (grammar.less w.0 k.2.0 p.1, record { polynomial = IsPolynomial-sum L w.1.polynomial (IsPolynomial-negation L k.2.1.polynomial); within = p.1 })))))
 
-      sum_reading : (ts : List Token) (t : State) → SoFar s0 V ts t → ((us : List Token) → GoesOn d us → V.Goes (ts ++ us))
+      sum_reading : (ts : List Token) (t : State) → SoFar s0 V ts t → ((us : List Token) → GoesOn d us → V.Goes (ts ++ us)) → ((us : List Token) → IsLargeExpression F meaning d us → TooLarge (ts ++ us))
           → Reading s0 V fault_of (Whole d) ts (text.sum_at F meaning (text.parenthesised F meaning d) t)
       unfolding text.sum_at
-      sum_reading ts t H K =
-          then_reading s0 V fault_of _ (first_reading ts t H K)
-          (λ f us u h Hu. repeat_reading s0 V (text.plus_term F meaning (text.parenthesised F meaning d)) (Whole d) ts (plus_reading ts K) (length u.left) f us u h Hu)
+      sum_reading ts t H K C =
+          then_reading s0 V fault_of _ (first_reading ts t H K C)
+          (λ f us u h Hu. repeat_reading s0 V (text.plus_term F meaning (text.parenthesised F meaning d)) (Whole d) ts (plus_reading ts K C) (length u.left) f us u h Hu)
 
     inside_reading : (d : ℕ) → Inside d
     unfolding text.parenthesised
-    inside_reading zero ts u H narrow K = stuck (late s0 V H narrow)
-    inside_reading (suc d) ts u H narrow K =
-        then_reading s0 V fault_of _ (sum_reading d (inside_reading d) ts u H (λ us g. K us (inside_goes d us g)))
+    inside_reading zero ts u H narrow K C = stuck (late s0 V H (narrow, caused s0 V kinds.Large H (subst TooLarge (append-nil ts) (C [] large.nested))))
+    inside_reading (suc d) ts u H narrow K C =
+        then_reading s0 V fault_of _ (sum_reading d (inside_reading d) ts u H (λ us g. K us (inside_goes d us g)) (λ us g. C us (large.inside g)))
         (λ f us v h Hv. let here = K us (inside_goes d us (expression_ends d us f h)) in
         reading_sign s0 V fault_of closing _ _ Hv.reached here
         (λ x Hx. read (us ++ Sign closing ∷ []) (grammar.parentheses h.0, h.1) (regrouped s0 V ts us (Sign closing ∷ []) Hx)) (stuck (wrong_next s0 V Hv.reached here)))
 
-    pub expression_reading : (ts : List Token) (t : State) → SoFar s0 V ts t → ((us : List Token) → GoesOn 64 us → V.Goes (ts ++ us)) → Reading s0 V fault_of (Whole 64) ts (text.expression F meaning t)
+    pub expression_reading : (ts : List Token) (t : State) → SoFar s0 V ts t → ((us : List Token) → GoesOn 64 us → V.Goes (ts ++ us)) → ((us : List Token) → IsLargeExpression F meaning 64 us → TooLarge (ts ++ us)) → Reading s0 V fault_of (Whole 64) ts (text.expression F meaning t)
     unfolding text.expression
-    expression_reading ts t H K = sum_reading 64 (inside_reading 64) ts t H K
+    expression_reading ts t H K C = sum_reading 64 (inside_reading 64) ts t H K C

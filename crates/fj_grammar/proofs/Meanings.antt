@@ -12,6 +12,8 @@ use Rattle.fj_text.specs.Token.{Token}
 use Rattle.fj_text.specs.Word.{place_of}
 use Rattle.fj_script.specs.Names.{declared_names, meaning, unless_declared}
 use Rattle.fj_script.specs.Session.{Session}
+use Rattle.fj_grammar.specs.Large as large
+use Rattle.fj_grammar.specs.Large.{IsLargeAtom, IsLargeExpression, IsLargeFactor, IsLargeTerm}
 
 -- An expression is one where each word that is a variable is the same variable.
 module _ {F : Field} {m n : List ℕ → Meaning} (same : (w : List ℕ) (i : ℕ) → m w ≡ meanings.Variable i → n w ≡ meanings.Variable i) where
@@ -34,6 +36,29 @@ module _ {F : Field} {m n : List ℕ → Meaning} (same : (w : List ℕ) (i : �
     expression_along (expressions.negative d) = expressions.negative (term_along d)
     expression_along (expressions.add d e h) = expressions.add (expression_along d) (term_along e) h
     expression_along (expressions.less d e h) = expressions.less (expression_along d) (term_along e) h
+
+  mutual
+    large_atom_along : {depth : ℕ} {ts : List Token} → IsLargeAtom F m depth ts → IsLargeAtom F n depth ts
+    large_atom_along large.nested = large.nested
+    large_atom_along (large.inside d) = large.inside (large_along d)
+
+    large_factor_along : {depth : ℕ} {ts : List Token} → IsLargeFactor F m depth ts → IsLargeFactor F n depth ts
+    large_factor_along (large.atom d) = large.atom (large_atom_along d)
+    large_factor_along (large.exponent d much few) = large.exponent (atom_along d) much few
+    large_factor_along (large.raised d few h) = large.raised (atom_along d) few h
+
+    large_term_along : {depth : ℕ} {ts : List Token} → IsLargeTerm F m depth ts → IsLargeTerm F n depth ts
+    large_term_along (large.factor d) = large.factor (large_factor_along d)
+    large_term_along (large.later d e) = large.later (term_along d) (large_factor_along e)
+    large_term_along (large.times d e h) = large.times (term_along d) (factor_along e) h
+
+    pub large_along : {depth : ℕ} {ts : List Token} → IsLargeExpression F m depth ts → IsLargeExpression F n depth ts
+    large_along (large.first d) = large.first (large_term_along d)
+    large_along (large.negative d) = large.negative (large_term_along d)
+    large_along (large.behind_plus d e) = large.behind_plus (expression_along d) (large_term_along e)
+    large_along (large.behind_minus d e) = large.behind_minus (expression_along d) (large_term_along e)
+    large_along (large.add d e h) = large.add (expression_along d) (term_along e) h
+    large_along (large.less d e h) = large.less (expression_along d) (term_along e) h
 
 module _ (S : Session) (w : List ℕ) (i : ℕ) where
   pub among_variables : meaning S w ≡ meanings.Variable i → meaning_among S.variables w ≡ meanings.Variable i

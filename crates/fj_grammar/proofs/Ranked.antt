@@ -17,6 +17,7 @@ use Rattle.fj_grammar.specs.Beginning.{CanGoOnWith, IsAlikeFor, IsDoomed, MakeSe
 use Rattle.fj_grammar.specs.FirstFault.{line_at, tokens_before}
 use Rattle.fj_grammar.specs.Grammar as grammar
 use Rattle.fj_grammar.specs.Grammar.{AreListed, HasTerms, IsRing, IsSession, IsStatement, tokens_of}
+use Rattle.fj_grammar.specs.Large.{HasLarge}
 use Rattle.fj_grammar.specs.Rank as rank
 use Rattle.fj_grammar.specs.Rank.{AreTooMany, HaveWrongArity, IsOfNumber, IsOfWord, KindIsHighest, StandsAt, lines_to, tokens_to}
 use Rattle.fj_grammar.proofs.BeginningLines.{Causes, MayFollow, MayStand, behind_lines}
@@ -123,11 +124,12 @@ kind_highest bytes place H e = record {
   byte_over_others = λ stands. bad_there stands K.rest K.all K.at K.blames;
   syntax_over_number = λ is. let x = number_follows s0 w.session (toks K.before) (toks K.rest) place.kind fits is in (x.0, (w.session, made, subst (λ ts. MayFollow w.session ts (Number x.0)) (sym before_it) x.1));
   syntax_over_word = λ is. let x = word_follows s0 w.session (toks K.before) (toks K.rest) place.kind fits is in (x.0, (w.session, made, subst (λ ts. MayFollow w.session ts (Word x.0)) (sym before_it) x.1));
+  syntax_over_large = λ is t stands. let x = fit kinds.Large is in cause_there HasLarge kinds.Large (λ S ts h. h) t stands x.1;
   syntax_over_arity = λ is t stands. cause_there HaveWrongArity kinds.Arity (λ S ts h. h) t stands (fit kinds.Arity is);
   prime_over_wide = λ is ring. let x = fit kinds.Wide is in ring_first w.session l w.found ring.0 (ap tokens_of (sym line_same) ∙ ring.1) w.wrong (λ syntax. absurd (let same = sym is ∙ sym kind_same ∙ syntax in cc)) x.0;
   vars_over_taken = λ is ring. let x = fit kinds.Taken is in early (ring_first w.session l w.found ring.0 (ap tokens_of (sym line_same) ∙ ring.1) w.wrong (λ syntax. absurd (let same = sym is ∙ sym kind_same ∙ syntax in cc))) x.1;
   taken_and_large_over_many = λ is t stands. cause_there AreTooMany kinds.Many (λ S ts h. h) t stands (fit kinds.Many is);
-  wide_over_large = λ is n stands. narrow_there n (there (Number n) stands) (fit kinds.Large is);
+  wide_over_large = λ is n stands. let x = fit kinds.Large is in narrow_there n (there (Number n) stands) x.0;
   wide_over_range = λ is n stands. let x = fit kinds.Range is in narrow_there n (there (Number n) stands) x.1;
   wide_over_many = λ is n stands. let x = cause_there AreTooMany kinds.Many (λ S ts h. h) (Number n) stands (fit kinds.Many is) in many_narrow x.2 n (tokens_to place bytes) refl;
 }

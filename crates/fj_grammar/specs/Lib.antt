@@ -2,4 +2,5 @@ pub mod Grammar
 pub mod GrammarLaws
 pub mod FirstFault
 pub mod Beginning
+pub mod Large
 pub mod Rank

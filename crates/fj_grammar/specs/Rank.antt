@@ -7,6 +7,7 @@ use Rattle.fj_script.specs.declared.fault.FaultKind.TheVariants as kinds
 use Rattle.fj_grammar.specs.Beginning.{CanGoOnWith, IsDoomed, MakeSession}
 use Rattle.fj_grammar.specs.FirstFault.{HasStatements, line_at, tokens_before}
 use Rattle.fj_grammar.specs.Grammar.{AreListed, HasTerms, IsCoordinate, IsNew, IsSession, tokens_of}
+use Rattle.fj_grammar.specs.Large.{HasLarge}
 use Rattle.fj_script.specs.Items.{comma, equals}
 use Rattle.fj_script.specs.Script.{lines, script}
 use Rattle.fj_script.specs.Session.{Session, Terms, terms_in}
@@ -58,14 +59,19 @@ pub data HaveWrongArity (S : Session) : List Token → Type 0 where
   too_few : {name : List ℕ} {ts : List Token} {cs : List ℕ} → IsNew S name → AreListed (IsCoordinate S.prime) ts cs → length cs < length S.variables
       → HaveWrongArity S (Word (codes "point") ∷ Word name ∷ Sign equals ∷ Sign opening ∷ ts ++ Sign closing ∷ [])
 
+-- Behind the session that the lines before a place make, the tokens of its line through the one that stands there are such tokens.
+abbrev pub HasCause : (Session → List Token → Type 0) → Fault → List ℕ → Type 0
+HasCause Is place bytes = (t : Token) → StandsAt place bytes t → (S : Session) × IsSession (lines_to place bytes) S × Is S (tokens_to place bytes ++ t ∷ [])
+
 -- Of two kinds that could stand at one place the lower one is told only where the higher one doesn't stand.
 pub record IsHighest (bytes : List ℕ) (place : Fault) : Type 0 where
   pub byte_over_others : StandsAt place bytes BadByte → place.kind ≡ kinds.Byte
   -- where something is wrong with a number, a number may stand, and where something is wrong with a word, a word
   pub syntax_over_number : IsOfNumber place.kind → (n : ℕ) × MayStandAt place bytes (Number n)
   pub syntax_over_word : IsOfWord place.kind → (w : List ℕ) × MayStandAt place bytes (Word w)
-  -- and where the number of coordinates is wrong, a comma or a parenthesis
-  pub syntax_over_arity : place.kind ≡ kinds.Arity → (t : Token) → StandsAt place bytes t → (S : Session) × IsSession (lines_to place bytes) S × HaveWrongArity S (tokens_to place bytes ++ t ∷ [])
+  -- where something is too large, or the number of coordinates is wrong, the text up to it is as in the grammar
+  pub syntax_over_large : place.kind ≡ kinds.Large → HasCause HasLarge place bytes
+  pub syntax_over_arity : place.kind ≡ kinds.Arity → HasCause HaveWrongArity place bytes
   -- no number of the ring's line is Wide
   pub prime_over_wide : place.kind ≡ kinds.Wide → BeginsWith place bytes (codes "ring") → ⊥
   -- a number that is Large, that is out of range, or with which there are too many terms isn't wide
@@ -75,7 +81,7 @@ pub record IsHighest (bytes : List ℕ) (place : Fault) : Type 0 where
   -- a variable that is taken is one of the first seven: at most `ring`, the prime, and six variables with their commas stand before it
   pub vars_over_taken : place.kind ≡ kinds.Taken → BeginsWith place bytes (codes "ring") → length (tokens_before place.column (line_at place.line bytes)) ≤ 14
   -- a name too many is no name yet, and an expression with which there are too many terms has its value
-  pub taken_and_large_over_many : place.kind ≡ kinds.Many → (t : Token) → StandsAt place bytes t → (S : Session) × IsSession (lines_to place bytes) S × AreTooMany S (tokens_to place bytes ++ t ∷ [])
+  pub taken_and_large_over_many : place.kind ≡ kinds.Many → HasCause AreTooMany place bytes
 
 -- The kind of a fault is the highest at its place.
 abbrev pub KindIsHighest : Type 0
