@@ -23,7 +23,7 @@ use Rattle.fj_script.specs.Question.{Target}
 use Rattle.fj_grammar.specs.Large.{HasLarge}
 use Rattle.fj_grammar.specs.Rank.{AreTooMany, HaveWrongArity}
 use Rattle.fj_script.specs.Session.{Session, Value, ask, kind}
-use Rattle.fj_grammar.proofs.Beginnings.{Fits, Numbers, Reached, Reading, Sayings, SoFar, Took, Words, behind, late, number_narrow, numbers_at, read, reading_if, reading_next, sound, stuck, then_reading, toks, words_at, wrong_token}
+use Rattle.fj_grammar.proofs.Beginnings.{BeginsWithWord, Fits, Numbers, Reached, Reading, Sayings, SoFar, Took, Words, behind, late, number_narrow, numbers_at, read, reading_if, reading_next, sound, stuck, then_reading, toks, words_at, wrong_token}
 use Rattle.fj_grammar.proofs.Continuations.{fresh, longest, some_ideal, some_level, some_nonconstant, some_polynomial, wide, wide_alike, wide_ideal, wide_nonconstant, wide_point, wide_polynomial}
 use Rattle.fj_grammar.proofs.GrammarPieces.{Declares, as_ideal, as_nonconstant, as_point, as_polynomial, declared_at, neither, not_zero}
 
@@ -144,14 +144,14 @@ module _ (s0 : State) (V : Sayings) where
 
     -- a kind that isn't taken
     abbrev Refuses : (Kind → Option FaultKind) → Type 0
-    Refuses kept = (k : Kind) → IfSome (kept k) (λ fault. (ts us : List Token) → Words s0 V ts → Fits s0 V fault ts us)
+    Refuses kept = (k : Kind) → IfSome (kept k) (λ fault. (ts us : List Token) → Words s0 V ts × BeginsWithWord us → Fits s0 V fault ts us)
 
     of_kind_reading : (Is : List ℕ → ℕ → Type 0) (kept : Kind → Option FaultKind) → Refuses kept → ((w : List ℕ) (i : ℕ) (v : Value) → slice_get S.values i ≡ Some (w, v) → kept (kind v) ≡ None → Is w i)
         → (ws : List Token) (r : Answer (ℕ × Kind)) → Words s0 V ws → Reading s0 V (λ e. e) (λ x us. (w : List ℕ) × (us ≡ Word w ∷ []) × Declares S w x.0 x.1) ws r
         → Reading s0 V (λ e. e) (λ x us. (tok : Token) × (us ≡ tok ∷ []) × IsName Is x tok) ws (r >>= names.of_kind kept)
     of_kind_reading Is kept refuses each ws r k h = then_reading s0 V (λ e. e) (names.of_kind kept) h (λ x us u d Hu. by x us u d Hu (kept x.1) refl (refuses x.1))
       where
-        by : (x : ℕ × Kind) (us : List Token) (u : State) → (w : List ℕ) × (us ≡ Word w ∷ []) × Declares S w x.0 x.1 → SoFar s0 V (ws ++ us) u → (o : Option FaultKind) → kept x.1 ≡ o → IfSome o (λ fault. (ts us : List Token) → Words s0 V ts → Fits s0 V fault ts us)
+        by : (x : ℕ × Kind) (us : List Token) (u : State) → (w : List ℕ) × (us ≡ Word w ∷ []) × Declares S w x.0 x.1 → SoFar s0 V (ws ++ us) u → (o : Option FaultKind) → kept x.1 ≡ o → IfSome o (λ fault. (ts us : List Token) → Words s0 V ts × BeginsWithWord us → Fits s0 V fault ts us)
             → Reading s0 V (λ e. e) (λ x us. (tok : Token) × (us ≡ tok ∷ []) × IsName Is x tok) ws (option_map_or (λ fault. Err (fault_at fault u)) o (Ok (x.0, u)))
         by x us u d Hu (Some fault) e fits = stuck (late s0 V Hu (fits (toks Hu.reached.init) (Hu.reached.last.token ∷ toks u.left) (words_at s0 V Hu d.1 k)))
         by x us u d Hu None e fits = read us (Word d.0, d.1, (d.0, refl, each d.0 x.0 d.2.0 d.2.1 (ap kept d.2.2 ∙ e))) Hu

@@ -26,7 +26,7 @@ use Rattle.fj_script.specs.Question as question
 use Rattle.fj_script.specs.Question.{Target}
 use Rattle.fj_script.specs.Session.{Session}
 use Rattle.fj_script.proofs.AcceptedYields.{Yields}
-use Rattle.fj_grammar.proofs.Beginnings.{Numbers, Reached, Reading, Sayings, SoFar, Words, behind, init_is, last_is, late, number_narrow, numbers_at, read, sign_reached, stuck, taken, then_reading, toks}
+use Rattle.fj_grammar.proofs.Beginnings.{BeginsWithNumber, Numbers, Reached, Reading, Sayings, SoFar, Words, behind, init_is, last_is, late, number_first, number_narrow, numbers_at, read, sign_reached, stuck, taken, then_reading, toks}
 use Rattle.fj_grammar.proofs.BeginningLines.{Asks, MayStand, TargetIn, argument_next, ask_goes, ask_with, asks_one, asks_three, asks_two, behind_lines, exponent_argument, ideal_argument, ideal_reading, level_argument, narrow_reading, nonconstant_argument, nonconstant_reading, point_by_reading, polynomial_argument, target_argument, word_reading}
 use Rattle.fj_grammar.proofs.Continuations.{fresh, longest, nothing_ratio, one_above, one_ratio, some_ideal, some_nonconstant, some_point, whole_ratio, wide, wide_ideal, wide_nonconstant, zero_ratio}
 use Rattle.fj_grammar.proofs.ExpressionEnds.{IsNarrow}
@@ -36,7 +36,7 @@ use Rattle.fj_grammar.proofs.GrammarSound.{ask_is, ask_word}
 -- ---- fractions
 
 module _ (s0 : State) (V : Sayings) where
-  ratio_of_reading : (positive : Bool) (m n : ℕ) → m < 2 ^ 32 → n < 2 ^ 32 → (ts us : List Token) (u : State) (H : SoFar s0 V (ts ++ us) u) → Numbers s0 V (toks H.reached.init) × IsNarrow H.reached.last.token
+  ratio_of_reading : (positive : Bool) (m n : ℕ) → m < 2 ^ 32 → n < 2 ^ 32 → (ts us : List Token) (u : State) (H : SoFar s0 V (ts ++ us) u) → (Numbers s0 V (toks H.reached.init) × BeginsWithNumber (H.reached.last.token ∷ toks u.left)) × IsNarrow H.reached.last.token
       → Reading s0 V (λ e. e) (λ t vs. (vs ≡ us) × Taken positive m n t) ts (numbers.ratio_of positive m n u)
   unfolding numbers.ratio_of
   ratio_of_reading positive m n few fewer ts us u H k = by (numbers.lowest m n) (ratio_of_takes positive m n u few fewer)
@@ -62,10 +62,10 @@ module _ (s0 : State) (V : Sayings) where
       Goal t us = IsRatio us t × (positive ≡ true → 0 < t.numerator)
 
       -- the last number of a fraction
-      last_of : (m n : ℕ) (vs : List Token) (y : State) → vs ≡ Number m ∷ Sign slash ∷ Number n ∷ [] → n < 2 ^ 32 → (Hy : SoFar s0 V (ws ++ vs) y) → Numbers s0 V (ws ++ Number m ∷ Sign slash ∷ []) → Numbers s0 V (toks Hy.reached.init) × IsNarrow Hy.reached.last.token
+      last_of : (m n : ℕ) (vs : List Token) (y : State) → vs ≡ Number m ∷ Sign slash ∷ Number n ∷ [] → n < 2 ^ 32 → (Hy : SoFar s0 V (ws ++ vs) y) → Numbers s0 V (ws ++ Number m ∷ Sign slash ∷ []) → (Numbers s0 V (toks Hy.reached.init) × BeginsWithNumber (Hy.reached.last.token ∷ toks y.left)) × IsNarrow Hy.reached.last.token
       last_of m n vs y e few Hy k =
           let front : List Token = Number m ∷ Sign slash ∷ [] in
-          (subst (Numbers s0 V) (init_is s0 V ws vs front (Number n) Hy e) k, subst IsNarrow (last_is s0 V ws vs front (Number n) Hy e) few)
+          ((subst (Numbers s0 V) (init_is s0 V ws vs front (Number n) Hy e) k, number_first s0 V ws vs front n Hy e), subst IsNarrow (last_is s0 V ws vs front (Number n) Hy e) few)
 
       whole : (m : ℕ) (us : List Token) → us ≡ Number m ∷ [] → (r : Answer Fraction) → Reading s0 V (λ e. e) (λ t vs. (vs ≡ us) × Taken positive m 1 t) ws r → Reading s0 V (λ e. e) Goal ws r
       whole m us e r (read {x = x} vs h K) = read vs (subst (λ ts. IsRatio ts x) (sym (h.0 ∙ e)) (grammar.whole h.1.0), h.1.1) K

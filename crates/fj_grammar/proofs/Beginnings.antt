@@ -65,6 +65,12 @@ abbrev pub BeginsNarrow : List Token → Type 0
 BeginsNarrow [] = Unit {0}
 BeginsNarrow (t ∷ ts) = IsNarrow t
 
+abbrev pub BeginsWithNumber : List Token → Type 0
+BeginsWithNumber us = (n : ℕ) × (vs : List Token) × (us ≡ Number n ∷ vs)
+
+abbrev pub BeginsWithWord : List Token → Type 0
+BeginsWithWord us = (w : List ℕ) × (vs : List Token) × (us ≡ Word w ∷ vs)
+
 sound_blames : (k : FaultKind) (t : Placed) (ts : List Placed) → IsSound t.token → Blames k (t ∷ ts)
 sound_blames k t ts sound e = absurd (subst IsSound e sound)
 
@@ -160,14 +166,14 @@ module _ (s0 : State) (V : Sayings) where
   -- What is said of the tokens before a fault of this kind, and of those from its place on: which tokens might stand there, and
   -- what the kinds that are higher have to do with it.
   abbrev pub Fits : FaultKind → List Token → List Token → Type 0
-  Fits kinds.Prime ts us = (n : ℕ) × V.Next ts (Number n)
-  Fits kinds.Wide ts us = Numbers ts
-  Fits kinds.Range ts us = Numbers ts × BeginsNarrow us
-  Fits kinds.Vars ts us = Words ts
-  Fits kinds.Taken ts us = Words ts × (V.HasRing ⊎ (length ts ≤ 14))
-  Fits kinds.Unknown ts us = Words ts
-  Fits kinds.Kind ts us = Words ts
-  Fits kinds.Constant ts us = Words ts
+  Fits kinds.Prime ts us = ((n : ℕ) × V.Next ts (Number n)) × BeginsWithNumber us
+  Fits kinds.Wide ts us = Numbers ts × BeginsWithNumber us
+  Fits kinds.Range ts us = (Numbers ts × BeginsWithNumber us) × BeginsNarrow us
+  Fits kinds.Vars ts us = Words ts × BeginsWithWord us
+  Fits kinds.Taken ts us = (Words ts × BeginsWithWord us) × (V.HasRing ⊎ (length ts ≤ 14))
+  Fits kinds.Unknown ts us = Words ts × BeginsWithWord us
+  Fits kinds.Kind ts us = Words ts × BeginsWithWord us
+  Fits kinds.Constant ts us = Words ts × BeginsWithWord us
   Fits kinds.Many ts us = Caused kinds.Many ts us
   Fits kinds.Long ts us = Unit {0}
   Fits kinds.Byte ts us = Unit {0}
@@ -226,12 +232,18 @@ module _ (s0 : State) (V : Sayings) where
   pub number_narrow : (ws : List Token) {us : List Token} {n : ℕ} {u : State} (H : SoFar (ws ++ us) u) → us ≡ Number n ∷ [] → n < 2 ^ 32 → IsNarrow H.reached.last.token
   number_narrow ws {us} {n} H e few = subst IsNarrow (last_is ws us [] (Number n) H e) few
 
-  -- before a number, and before a word
-  pub numbers_at : {ws us : List Token} {n : ℕ} {u : State} (H : SoFar (ws ++ us) u) → us ≡ Number n ∷ [] → Numbers ws → Numbers (toks H.reached.init)
-  numbers_at {ws} {us} {n} H e k = subst Numbers (sym (append-nil ws) ∙ init_is ws us [] (Number n) H e) k
+  pub number_first : (ws us front : List Token) (n : ℕ) {u : State} (H : SoFar (ws ++ us) u) → us ≡ front ++ Number n ∷ [] → BeginsWithNumber (H.reached.last.token ∷ toks u.left)
+  number_first ws us front n {u} H e = (n, toks u.left, ap (λ t. t ∷ toks u.left) (sym (last_is ws us front (Number n) H e)))
 
-  pub words_at : {ws us : List Token} {w : List ℕ} {u : State} (H : SoFar (ws ++ us) u) → us ≡ Word w ∷ [] → Words ws → Words (toks H.reached.init)
-  words_at {ws} {us} {w} H e k = subst Words (sym (append-nil ws) ∙ init_is ws us [] (Word w) H e) k
+  pub word_first : (ws us front : List Token) (w : List ℕ) {u : State} (H : SoFar (ws ++ us) u) → us ≡ front ++ Word w ∷ [] → BeginsWithWord (H.reached.last.token ∷ toks u.left)
+  word_first ws us front w {u} H e = (w, toks u.left, ap (λ t. t ∷ toks u.left) (sym (last_is ws us front (Word w) H e)))
+
+  -- before a number, and before a word
+  pub numbers_at : {ws us : List Token} {n : ℕ} {u : State} (H : SoFar (ws ++ us) u) → us ≡ Number n ∷ [] → Numbers ws → Numbers (toks H.reached.init) × BeginsWithNumber (H.reached.last.token ∷ toks u.left)
+  numbers_at {ws} {us} {n} {u} H e k = (subst Numbers (sym (append-nil ws) ∙ init_is ws us [] (Number n) H e) k, number_first ws us [] n H e)
+
+  pub words_at : {ws us : List Token} {w : List ℕ} {u : State} (H : SoFar (ws ++ us) u) → us ≡ Word w ∷ [] → Words ws → Words (toks H.reached.init) × BeginsWithWord (H.reached.last.token ∷ toks u.left)
+  words_at {ws} {us} {w} {u} H e k = (subst Words (sym (append-nil ws) ∙ init_is ws us [] (Word w) H e) k, word_first ws us [] w H e)
 
   pub caused : (k : FaultKind) {ts : List Token} {t : State} (H : SoFar ts t) → V.Cause k ts → Caused k (toks H.reached.init) (H.reached.last.token ∷ toks t.left)
   caused k {ts} {t} H cause = (H.reached.last.token, toks t.left, refl, subst (V.Cause k) H.reached.tokens cause)

@@ -1,7 +1,7 @@
 -- The kind of a fault is the highest at its place.
 use Rattle.std.proofs.Common.{◌≡◌, ◌≢◌, ℕ, zero, ◌+◌, ◌-◌, ◌^◌, ◌<◌, ◌≤◌, List, [], ◌∷◌, ◌++◌, length, drop, get_or, All, Contains, Option, Some, None, Ok, Err, codes, refl, sym, ap, ◌∙◌, subst, arith, append_assoc, inl, inr, ◌⊎◌}
 use Rattle.std.proofs.lemmas.List.{append-nil, length-map}
-use Rattle.std.proofs.lemmas.List.Elements.{Contains-append_left}
+use Rattle.std.proofs.lemmas.List.Elements.{Contains-append_left, Contains-append_right}
 use Rattle.fj_text.specs.State.{State, after, end_of, next}
 use Rattle.fj_text.specs.Token.{Token, Word, Number, Sign, BadByte, Placed, opening, tokens_from}
 use Rattle.fj_script.specs.declared.fault.FaultKind.{FaultKind}
@@ -19,7 +19,7 @@ use Rattle.fj_grammar.specs.Grammar as grammar
 use Rattle.fj_grammar.specs.Grammar.{AreListed, HasTerms, IsRing, IsSession, IsStatement, tokens_of}
 use Rattle.fj_grammar.specs.Large.{HasLarge}
 use Rattle.fj_grammar.specs.Rank as rank
-use Rattle.fj_grammar.specs.Rank.{AreTooMany, HaveWrongArity, IsOfNumber, IsOfWord, KindIsHighest, StandsAt, lines_to, tokens_to}
+use Rattle.fj_grammar.specs.Rank.{AreTooMany, HasCause, HaveWrongArity, IsOfNumber, IsOfWord, KindIsHighest, StandsAt, lines_to, tokens_to}
 use Rattle.fj_grammar.proofs.BeginningLines.{Causes, MayFollow, MayStand, behind_lines}
 use Rattle.fj_grammar.proofs.BeginningSessions.{before_is, made_before, stuck_at}
 use Rattle.fj_grammar.proofs.Beginnings as Said
@@ -73,21 +73,21 @@ module _ (s0 : State) (before : Option Session) (ts us : List Token) (k : FaultK
   abbrev As : FaultKind → Type 0
   As k = Said.Fits s0 (behind_lines before) k ts us
 
-  number_follows : IsOfNumber k → (n : ℕ) × MayFollow before ts (Number n)
+  number_follows : IsOfNumber k → ((n : ℕ) × MayFollow before ts (Number n)) × Said.BeginsWithNumber us
   number_follows is = by is
     where
       told : Said.Numbers s0 (behind_lines before) ts → (n : ℕ) × MayFollow before ts (Number n)
       told (ring, n, x) = (n, either_follows before ts (Number n) (λ b e. absurd cc) x)
 
-      by : IsOfNumber k → (n : ℕ) × MayFollow before ts (Number n)
+      by : IsOfNumber k → ((n : ℕ) × MayFollow before ts (Number n)) × Said.BeginsWithNumber us
       by (inl e) = subst As e h
-      by (inr (inl e)) = told (subst As e h)
-      by (inr (inr e)) = let x = subst As e h in told x.0
+      by (inr (inl e)) = let x = subst As e h in (told x.0, x.1)
+      by (inr (inr e)) = let x = subst As e h in (told x.0.0, x.0.1)
 
-  word_follows : IsOfWord k → (w : List ℕ) × MayFollow before ts (Word w)
-  word_follows is = let x = by is in (x.0, either_follows before ts (Word x.0) (λ b e. absurd cc) x.1)
+  word_follows : IsOfWord k → ((w : List ℕ) × MayFollow before ts (Word w)) × Said.BeginsWithWord us
+  word_follows is = let x = by is in ((x.0.0, either_follows before ts (Word x.0.0) (λ b e. absurd cc) x.0.1), x.1)
     where
-      by : IsOfWord k → Said.Words s0 (behind_lines before) ts
+      by : IsOfWord k → Said.Words s0 (behind_lines before) ts × Said.BeginsWithWord us
       by (inl e) = subst As e h
       by (inr (inl e)) = let x = subst As e h in x.0
       by (inr (inr (inl e))) = subst As e h
@@ -122,16 +122,16 @@ many_narrow (rank.generator_terms {name} {ts = us} new l few many) n ts e = narr
 pub kind_highest : KindIsHighest
 kind_highest bytes place H e = record {
   byte_over_others = λ stands. bad_there stands K.rest K.all K.at K.blames;
-  syntax_over_number = λ is. let x = number_follows s0 w.session (toks K.before) (toks K.rest) place.kind fits is in (x.0, (w.session, made, subst (λ ts. MayFollow w.session ts (Number x.0)) (sym before_it) x.1));
-  syntax_over_word = λ is. let x = word_follows s0 w.session (toks K.before) (toks K.rest) place.kind fits is in (x.0, (w.session, made, subst (λ ts. MayFollow w.session ts (Word x.0)) (sym before_it) x.1));
-  syntax_over_large = λ is t stands. let x = fit kinds.Large is in cause_there HasLarge kinds.Large (λ S ts h. h) t stands x.1;
-  syntax_over_arity = λ is t stands. cause_there HaveWrongArity kinds.Arity (λ S ts h. h) t stands (fit kinds.Arity is);
-  prime_over_wide = λ is ring. let x = fit kinds.Wide is in ring_first w.session l w.found ring.0 (ap tokens_of (sym line_same) ∙ ring.1) w.wrong (λ syntax. absurd (let same = sym is ∙ sym kind_same ∙ syntax in cc)) x.0;
+  syntax_over_number = λ is. let x = number_follows s0 w.session (toks K.before) (toks K.rest) place.kind fits is in let at = x.1 in (at.0, x.0.0, first_stands (Number at.0) at.1 at.2 K.rest K.all K.at refl, (w.session, made, subst (λ ts. MayFollow w.session ts (Number x.0.0)) (sym before_it) x.0.1));
+  syntax_over_word = λ is. let x = word_follows s0 w.session (toks K.before) (toks K.rest) place.kind fits is in let at = x.1 in (at.0, x.0.0, first_stands (Word at.0) at.1 at.2 K.rest K.all K.at refl, (w.session, made, subst (λ ts. MayFollow w.session ts (Word x.0.0)) (sym before_it) x.0.1));
+  syntax_over_large = λ is. let x = fit kinds.Large is in cause_there HasLarge kinds.Large (λ S ts h. h) x.1;
+  syntax_over_arity = λ is. cause_there HaveWrongArity kinds.Arity (λ S ts h. h) (fit kinds.Arity is);
+  prime_over_wide = λ is ring. let x = fit kinds.Wide is in ring_first w.session l w.found ring.0 (ap tokens_of (sym line_same) ∙ ring.1) w.wrong (λ syntax. absurd (let same = sym is ∙ sym kind_same ∙ syntax in cc)) x.0.0;
   vars_over_taken = λ is ring. let x = fit kinds.Taken is in early (ring_first w.session l w.found ring.0 (ap tokens_of (sym line_same) ∙ ring.1) w.wrong (λ syntax. absurd (let same = sym is ∙ sym kind_same ∙ syntax in cc))) x.1;
-  taken_and_large_over_many = λ is t stands. cause_there AreTooMany kinds.Many (λ S ts h. h) t stands (fit kinds.Many is);
+  taken_and_large_over_many = λ is. cause_there AreTooMany kinds.Many (λ S ts h. h) (fit kinds.Many is);
   wide_over_large = λ is n stands. let x = fit kinds.Large is in narrow_there n (there (Number n) stands) x.0;
   wide_over_range = λ is n stands. let x = fit kinds.Range is in narrow_there n (there (Number n) stands) x.1;
-  wide_over_many = λ is n stands. let x = cause_there AreTooMany kinds.Many (λ S ts h. h) (Number n) stands (fit kinds.Many is) in many_narrow x.2 n (tokens_to place bytes) refl;
+  wide_over_many = λ is n stands. let x = fit kinds.Many is in let at = there (Number n) stands in let c = cause_of AreTooMany kinds.Many (λ S ts h. h) (lines_to place bytes) w.session (toks K.before ++ x.0 ∷ []) made x.3 in many_narrow c.2 n (toks K.before) (ap (λ t. toks K.before ++ t ∷ []) (let firsts = sym x.2 ∙ at.1 in let same : x.0 ≡ Number n = cc in same));
 }
   where
     w : FirstWrong 1 None (lines bytes) place
@@ -207,10 +207,15 @@ kind_highest bytes place H e = record {
     narrow_there : (n : ℕ) → (us : List Token) × (toks K.rest ≡ Number n ∷ us) → Said.BeginsNarrow (toks K.rest) → n < 2 ^ 32
     narrow_there n (us, is) narrow = subst Said.BeginsNarrow is narrow
 
-    cause_there : (Is : Session → List Token → Type 0) (k : FaultKind) → ((S : Session) (ts : List Token) → Causes (Some S) k ts → Is S ts) → (t : Token) → StandsAt place bytes t → Said.Caused s0 (behind_lines w.session) k (toks K.before) (toks K.rest)
-        → (S : Session) × IsSession (lines_to place bytes) S × Is S (tokens_to place bytes ++ t ∷ [])
-    cause_there Is k is t stands (u, us, e, cause) =
-        let x = there t stands in
-        let same : u ≡ t = (let firsts = sym e ∙ x.1 in cc) in
-        let tokens : toks K.before ++ u ∷ [] ≡ tokens_to place bytes ++ t ∷ [] = ap (λ ts. ts ++ u ∷ []) (sym before_it) ∙ ap (λ v. tokens_to place bytes ++ v ∷ []) same in
-        cause_of Is k is _ w.session _ made (subst (Causes w.session k) tokens cause)
+    -- and such a token stands at the place
+    first_stands : (t : Token) (us : List Token) → toks K.rest ≡ t ∷ us → (rest : List Placed) → all ≡ K.before ++ rest → Said.StandsAt w.found.column rest (end_of K.before 0) → toks rest ≡ toks K.rest → StandsAt place bytes t
+    first_stands t us e [] whole at same = absurd (let none = same ∙ e in cc)
+    first_stands t us e (p ∷ ps) whole at same =
+        let first : p.token ≡ t = (let firsts = same ∙ e in cc) in
+        let inside : Contains all p = subst (λ ts. Contains ts p) (sym whole) (Contains-append_right K.before (p ∷ ps) p (0, omega arith, refl)) in
+        (p, subst (λ l. Contains (tokens_from zero zero l) p) (sym line_same) inside, omega (arith, at, column_is), first)
+
+    cause_there : (Is : Session → List Token → Type 0) (k : FaultKind) → ((S : Session) (ts : List Token) → Causes (Some S) k ts → Is S ts) → Said.Caused s0 (behind_lines w.session) k (toks K.before) (toks K.rest) → HasCause Is place bytes
+    cause_there Is k is (u, us, e, cause) =
+        let x = cause_of Is k is (lines_to place bytes) w.session (toks K.before ++ u ∷ []) made cause in
+        (u, first_stands u us e K.rest K.all K.at refl, x.0, x.1, subst (λ ts. Is x.0 (ts ++ u ∷ [])) (sym before_it) x.2)

@@ -59,16 +59,22 @@ pub data HaveWrongArity (S : Session) : List Token → Type 0 where
   too_few : {name : List ℕ} {ts : List Token} {cs : List ℕ} → IsNew S name → AreListed (IsCoordinate S.prime) ts cs → length cs < length S.variables
       → HaveWrongArity S (Word (codes "point") ∷ Word name ∷ Sign equals ∷ Sign opening ∷ ts ++ Sign closing ∷ [])
 
--- Behind the session that the lines before a place make, the tokens of its line through the one that stands there are such tokens.
+-- A token stands at the place, and behind the session that the lines before make the tokens of the line through it are such tokens.
 abbrev pub HasCause : (Session → List Token → Type 0) → Fault → List ℕ → Type 0
-HasCause Is place bytes = (t : Token) → StandsAt place bytes t → (S : Session) × IsSession (lines_to place bytes) S × Is S (tokens_to place bytes ++ t ∷ [])
+HasCause Is place bytes = (t : Token) × StandsAt place bytes t × (S : Session) × IsSession (lines_to place bytes) S × Is S (tokens_to place bytes ++ t ∷ [])
+
+-- A number stands at the place and a number may stand there; the same of words.
+abbrev pub IsAtNumber : Fault → List ℕ → Type 0
+IsAtNumber place bytes = (n m : ℕ) × StandsAt place bytes (Number n) × MayStandAt place bytes (Number m)
+
+abbrev pub IsAtWord : Fault → List ℕ → Type 0
+IsAtWord place bytes = (v w : List ℕ) × StandsAt place bytes (Word v) × MayStandAt place bytes (Word w)
 
 -- Of two kinds that could stand at one place the lower one is told only where the higher one doesn't stand.
 pub record IsHighest (bytes : List ℕ) (place : Fault) : Type 0 where
   pub byte_over_others : StandsAt place bytes BadByte → place.kind ≡ kinds.Byte
-  -- where something is wrong with a number, a number may stand, and where something is wrong with a word, a word
-  pub syntax_over_number : IsOfNumber place.kind → (n : ℕ) × MayStandAt place bytes (Number n)
-  pub syntax_over_word : IsOfWord place.kind → (w : List ℕ) × MayStandAt place bytes (Word w)
+  pub syntax_over_number : IsOfNumber place.kind → IsAtNumber place bytes
+  pub syntax_over_word : IsOfWord place.kind → IsAtWord place bytes
   -- where something is too large, or the number of coordinates is wrong, the text up to it is as in the grammar
   pub syntax_over_large : place.kind ≡ kinds.Large → HasCause HasLarge place bytes
   pub syntax_over_arity : place.kind ≡ kinds.Arity → HasCause HaveWrongArity place bytes
