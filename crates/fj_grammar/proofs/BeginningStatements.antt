@@ -35,7 +35,8 @@ use Rattle.fj_grammar.specs.Rank as rank
 use Rattle.fj_grammar.specs.Rank.{AreTooMany}
 use Rattle.fj_script.specs.Session.{Session, Terms, Ideal, Point, declare, terms_in}
 use Rattle.fj_script.proofs.AcceptedYields.{Yields}
-use Rattle.fj_grammar.proofs.Beginnings.{Numbers, Reading, Sayings, SoFar, Stuck, Whole, Words, behind, caused, expression_reading, late, read, reading_if, reading_sign, sign_taken, stuck, then_reading, words_at, wrong_next}
+use Rattle.fj_grammar.proofs.BeginningExpressions.{Whole, expression_reading}
+use Rattle.fj_grammar.proofs.Beginnings.{Numbers, Reading, Sayings, SoFar, Stuck, Words, behind, caused, late, read, reading_if, reading_sign, sign_taken, stuck, then_reading, words_at, wrong_next}
 use Rattle.fj_grammar.proofs.BeginningLines.{MayStand, behind_lines, narrow_reading, word_reading}
 use Rattle.fj_grammar.proofs.Continuations.{other_word, other_word-is}
 use Rattle.fj_grammar.proofs.FineValues.{IsFine, fine_constant}

@@ -10,6 +10,7 @@ pub mod FirstFault
 pub mod FineValues
 pub mod ExpressionEnds
 pub mod Beginnings
+pub mod BeginningExpressions
 pub mod Continuations
 pub mod BeginningLines
 pub mod BeginningQuestions
