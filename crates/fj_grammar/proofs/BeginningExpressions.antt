@@ -2,7 +2,7 @@
 use Rattle.std.proofs.Common.{◌≡◌, ℕ, zero, suc, ◌%◌, ◌^◌, ◌≤◌, eqb, ltb, List, [], ◌∷◌, ◌++◌, length, Option, Some, None, Ok, Err, refl, sym, ap, ◌∙◌, subst, arith, append_assoc, inl, inr, ◌⊎◌}
 use Rattle.std.specs.FinMap.{empty}
 use Rattle.std.specs.Option.{option_map, option_map_or}
-use Rattle.std.proofs.lemmas.Bool.{eqb-true, leb-false, ltb-false, ltb-true}
+use Rattle.std.proofs.lemmas.Bool.{eqb-true, leb-false, leb-true, ltb-false, ltb-true}
 use Rattle.std.proofs.lemmas.List.{append-nil}
 use Rattle.std.proofs.lemmas.Option.{none-some, same_Some}
 use Rattle.fj_coeff.specs.Field.{Field, IsField}
@@ -130,7 +130,8 @@ module _ {F : Field} (L : IsField F) (meaning : List ℕ → Meaning) where
 
   -- ---- what is read of an expression, where its beginnings can go on
 
-  module _ (s0 : State) (V : Sayings) (ring : V.HasRing) (name : List ℕ) (place : ℕ) (named : meaning name ≡ meanings.Variable place) where
+  module _ (s0 : State) (V : Sayings) (ring : V.HasRing) (name : List ℕ) (place : ℕ) (named : meaning name ≡ meanings.Variable place)
+      (unknown : (ts : List Token) (w : List ℕ) → meaning w ≡ meanings.Unknown → V.Wrong ts kinds.Unknown (Word w)) (other : (ts : List Token) (w : List ℕ) → meaning w ≡ meanings.OtherKind → V.Wrong ts kinds.Kind (Word w)) where
     abbrev TooLarge : List Token → Type 0
     TooLarge us = V.Cause kinds.Large us
 
@@ -162,13 +163,13 @@ module _ {F : Field} (L : IsField F) (meaning : List ℕ → Meaning) where
 
           known : (w : List ℕ) (u : State) → SoFar s0 V (ts ++ Word w ∷ []) u → (m : Meaning) → meaning w ≡ m → Reading s0 V fault_of (Atom d) ts (text.variable m u)
           known w u Hu (meanings.Variable i) e = read (Word w ∷ []) (grammar.word e, fine_variable L i) Hu
-          known w u Hu meanings.Unknown e = stuck (late s0 V Hu (words_at s0 V Hu refl a_word))
-          known w u Hu meanings.OtherKind e = stuck (late s0 V Hu (words_at s0 V Hu refl a_word))
+          known w u Hu meanings.Unknown e = stuck (late s0 V Hu (words_at s0 V kinds.Unknown Hu refl a_word (unknown ts w e)))
+          known w u Hu meanings.OtherKind e = stuck (late s0 V Hu (words_at s0 V kinds.Kind Hu refl a_word (other ts w e)))
 
           each : (tok : Token) (u : State) → Took s0 V (ts ++ tok ∷ []) u → Reading s0 V fault_of (Atom d) ts (text.atom_of F meaning (text.parenthesised F meaning d) tok u)
           each (Number n) u Hu =
               let Hn = sound s0 V ts (Number n) tt Hu in
-              reading_if s0 V fault_of (text.is_wide n) _ _ (λ _. stuck (late s0 V Hn (numbers_at s0 V Hn refl a_number))) (λ e. read (Number n ∷ []) (grammar.number (leb-false _ _ e), fine_constant L n) Hn)
+              reading_if s0 V fault_of (text.is_wide n) _ _ (λ wide. stuck (late s0 V Hn (numbers_at s0 V kinds.Wide Hn refl a_number (V.wide ring ts n (leb-true (2 ^ 32) n wide))))) (λ e. read (Number n ∷ []) (grammar.number (leb-false _ _ e), fine_constant L n) Hn)
           each (Word w) u Hu = known w u (sound s0 V ts (Word w) tt Hu) (meaning w) refl
           each BadByte u Hu = stuck (wrong_token s0 V ts BadByte Hu)
           each (Sign s) u Hu =
@@ -198,7 +199,7 @@ module _ {F : Field} (L : IsField F) (meaning : List ℕ → Meaning) where
           exponent f us h BadByte w Hw = stuck (wrong_token s0 V (ts ++ (us ++ Sign caret ∷ [])) BadByte Hw)
           exponent f us h (Number k) w Ho =
               let Hw = sound s0 V (ts ++ (us ++ Sign caret ∷ [])) (Number k) tt Ho in
-              reading_if s0 V fault_of (text.is_wide k) _ _ (λ _. stuck (late s0 V Hw (numbers_at s0 V Hw refl (a_number f us h))))
+              reading_if s0 V fault_of (text.is_wide k) _ _ (λ wide. stuck (late s0 V Hw (numbers_at s0 V kinds.Wide Hw refl (a_number f us h) (V.wide ring (ts ++ (us ++ Sign caret ∷ [])) k (leb-true (2 ^ 32) k wide)))))
               (λ fits. reading_if s0 V fault_of (ltb 1000 k) _ _ (λ much. let few = leb-false (2 ^ 32) k fits in
               stuck (late s0 V Hw (number_narrow s0 V (ts ++ (us ++ Sign caret ∷ [])) Hw refl few, caused s0 V kinds.Large Hw (behind_more TooLarge ts us (Number k ∷ []) (Sign caret) (C (us ++ Sign caret ∷ Number k ∷ []) (large.exponent h.0 (ltb-true 1000 k much) few))))))
               (λ e. read (us ++ Sign caret ∷ Number k ∷ []) (refl, ltb-false _ _ e)

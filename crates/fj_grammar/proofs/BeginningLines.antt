@@ -2,7 +2,8 @@
 use Rattle.std.proofs.Common.{◌≡◌, ℕ, ◌+◌, ◌^◌, ◌<◌, ◌≤◌, cond, ◌||◌, eqb, leb, ltb, List, [], ◌∷◌, ◌++◌, length, codes, Contains, Option, Some, None, IfSome, Ok, Err, true, false, Bool, refl, sym, ap, ◌∙◌, subst, arith, inl, inr, ◌⊎◌}
 use Rattle.std.specs.List.{slice_get}
 use Rattle.std.specs.Option.{option_map_or}
-use Rattle.std.proofs.lemmas.Bool.{leb-false, ltb-false}
+use Rattle.std.proofs.lemmas.Bool.{leb-false, leb-true, ltb-false}
+use Rattle.std.proofs.lemmas.List.{append-nil}
 use Rattle.fj_coeff.specs.Field.{primes}
 use Rattle.fj_text.specs.State.{State}
 use Rattle.fj_text.specs.Token.{Token, Word, Number, Sign, BadByte}
@@ -22,9 +23,12 @@ use Rattle.fj_script.specs.Question as question
 use Rattle.fj_script.specs.Question.{Target}
 use Rattle.fj_grammar.specs.Large.{HasLarge}
 use Rattle.fj_grammar.specs.Rank.{AreTooMany, HaveWrongArity}
-use Rattle.fj_script.specs.Session.{Session, Value, ask, kind}
-use Rattle.fj_grammar.proofs.Beginnings.{BeginsWithWord, Fits, Numbers, Reached, Reading, Sayings, SoFar, Took, Words, behind, late, number_narrow, numbers_at, read, reading_if, reading_next, sound, stuck, then_reading, toks, words_at, wrong_token}
+use Rattle.fj_grammar.specs.Wrong as wrong
+use Rattle.fj_grammar.specs.Wrong.{IsNameIn, IsWrong}
+use Rattle.fj_script.specs.Session.{Session, Terms, Value, Poly, ask, is_nonconstant, kind}
+use Rattle.fj_grammar.proofs.Beginnings.{Fits, Numbers, Reached, Reading, Sayings, SoFar, Took, Words, behind, init_is, last_is, late, number_narrow, numbers_at, read, reading_if, reading_next, sound, stuck, then_reading, toks, words_at, wrong_token}
 use Rattle.fj_grammar.proofs.Continuations.{fresh, longest, some_ideal, some_level, some_nonconstant, some_polynomial, wide, wide_alike, wide_ideal, wide_nonconstant, wide_point, wide_polynomial}
+use Rattle.fj_grammar.proofs.NamesOf.{declared_constant, declared_name, unless_declared}
 use Rattle.fj_grammar.proofs.GrammarPieces.{Declares, as_ideal, as_nonconstant, as_point, as_polynomial, declared_at, neither, not_zero}
 
 -- What may stand before the place of a fault, and a token that may stand at it.
@@ -45,8 +49,16 @@ abbrev Ringed : Option Session → Type 0
 Ringed None = ⊥
 Ringed (Some S) = Unit {0}
 
+pub wide_behind : (before : Option Session) → Ringed before → (ts : List Token) (n : ℕ) → 2 ^ 32 ≤ n → IsWrong before ts kinds.Wide (Number n)
+wide_behind None ring ts n h = absurd ring
+wide_behind (Some S) ring ts n h = wrong.wide h
+
+pub narrow_behind : (before : Option Session) → Ringed before → (ts : List Token) (n : ℕ) → n < 2 ^ 32 → IsWrong before ts kinds.Range (Number n)
+narrow_behind None ring ts n h = absurd ring
+narrow_behind (Some S) ring ts n h = wrong.out_of_range h
+
 abbrev pub behind_lines : Option Session → Sayings
-behind_lines before = record { HasRing = Ringed before; Goes = MayStand before; Next = MayFollow before; Cause = Causes before }
+behind_lines before = record { HasRing = Ringed before; Goes = MayStand before; Next = MayFollow before; Cause = Causes before; Wrong = IsWrong before; wide = wide_behind before; narrow = narrow_behind before }
 
 module _ (s0 : State) (V : Sayings) where
   -- A rule that takes a token first, where the tokens before it can go on.
@@ -83,13 +95,13 @@ module _ (s0 : State) (V : Sayings) where
   unfolding narrow
   narrow_reading ws t H v k =
       then_reading s0 V (λ e. e) _ (number_reading ws t H v)
-      (λ n us u e Hu. reading_if s0 V (λ e. e) (leb (2 ^ 32) n) _ _ (λ _. stuck (late s0 V Hu (numbers_at s0 V Hu e k))) (λ few. read us (e, leb-false _ _ few) Hu))
+      (λ n us u e Hu. reading_if s0 V (λ e. e) (leb (2 ^ 32) n) _ _ (λ wide. stuck (late s0 V Hu (numbers_at s0 V kinds.Wide Hu e k (V.wide k.0 ws n (leb-true (2 ^ 32) n wide))))) (λ few. read us (e, leb-false _ _ few) Hu))
 
   pub within_reading : (low high : ℕ) → IsReaderOf (Numbers s0 V) (λ n us. (us ≡ Number n ∷ []) × ((low ≤ n) × (n ≤ high))) (numbers.within low high)
   unfolding numbers.within
   within_reading low high ws t H v k =
       then_reading s0 V (λ e. e) _ (narrow_reading ws t H v k)
-      (λ n us u e Hu. reading_if s0 V (λ e. e) (ltb n low || ltb high n) _ _ (λ _. stuck (late s0 V Hu (numbers_at s0 V Hu e.0 k, number_narrow s0 V ws Hu e.0 e.1)))
+      (λ n us u e Hu. reading_if s0 V (λ e. e) (ltb n low || ltb high n) _ _ (λ _. stuck (late s0 V Hu (numbers_at s0 V kinds.Range Hu e.0 k (V.narrow k.0 ws n e.1), number_narrow s0 V ws Hu e.0 e.1)))
       (λ f. let both = neither (ltb n low) (ltb high n) f in read us (e.0, (ltb-false n low both.0, ltb-false high n both.1)) Hu))
 
   -- An argument that is one token, in each session.
@@ -114,10 +126,16 @@ module _ (s0 : State) (V : Sayings) where
   unfolding numbers.level
   level_reading p ws t H v k =
       then_reading s0 V (λ e. e) _ (narrow_reading ws t H v k)
-      (λ n us u e Hu. reading_if s0 V (λ e. e) (eqb n 0 || ltb 65536 (p ^ n)) _ _ (λ _. stuck (late s0 V Hu (numbers_at s0 V Hu e.0 k, number_narrow s0 V ws Hu e.0 e.1)))
+      (λ n us u e Hu. reading_if s0 V (λ e. e) (eqb n 0 || ltb 65536 (p ^ n)) _ _ (λ _. stuck (late s0 V Hu (numbers_at s0 V kinds.Range Hu e.0 k (V.narrow k.0 ws n e.1), number_narrow s0 V ws Hu e.0 e.1)))
       (λ f. let both = neither (eqb n 0) (ltb 65536 (p ^ n)) f in read us (Number n, e.0, (tt, refl, record { above_zero = not_zero n both.0; low = ltb-false 65536 (p ^ n) both.1 })) Hu))
 
-  module _ (S : Session) where
+  -- the words that are wrong behind a session
+  pub record KnowsWords (S : Session) : Type 0 where
+    pub unknown : (ts : List Token) (w : List ℕ) → (IsNameIn S w → ⊥) → V.Wrong ts kinds.Unknown (Word w)
+    pub other : (ts : List Token) (w : List ℕ) → IsNameIn S w → V.Wrong ts kinds.Kind (Word w)
+    pub constant : (ts : List Token) (w : List ℕ) (f : Terms) → Contains S.values (w, Poly f) → is_nonconstant f ≡ false → V.Wrong ts kinds.Constant (Word w)
+
+  module _ (S : Session) (N : KnowsWords S) where
     declared_by_reading : (ws : List Token) (tok : Token) (u : State) → Took s0 V (ws ++ tok ∷ []) u → Words s0 V ws
         → Reading s0 V (λ e. e) (λ x us. (w : List ℕ) × (us ≡ Word w ∷ []) × Declares S w x.0 x.1) ws (names.declared_by S tok u)
     unfolding names.declared_by word_of
@@ -129,55 +147,59 @@ module _ (s0 : State) (V : Sayings) where
         H : SoFar s0 V (ws ++ Word w ∷ []) u
         H = sound s0 V ws (Word w) tt Hw
 
-        either : (b : Bool) → Fits s0 V (cond b kinds.Kind kinds.Unknown) (toks H.reached.init) (H.reached.last.token ∷ toks u.left)
-        either true = words_at s0 V H refl k
-        either false = words_at s0 V H refl k
+        either : (b : Bool) → cond b (IsNameIn S w) (IsNameIn S w → ⊥) → Fits s0 V (cond b kinds.Kind kinds.Unknown) (toks H.reached.init) (H.reached.last.token ∷ toks u.left)
+        either true is = words_at s0 V kinds.Kind H refl k (N.other ws w is)
+        either false is = words_at s0 V kinds.Unknown H refl k (N.unknown ws w is)
 
         by : (o : Option (ℕ × Kind)) → names.declared_as S w ≡ o
             → Reading s0 V (λ e. e) (λ x us. (w : List ℕ) × (us ≡ Word w ∷ []) × Declares S w x.0 x.1) ws (option_map_or (λ v. Ok (v, u)) o (Err (fault_at (cond (names.is_variable S w) kinds.Kind kinds.Unknown) u)))
-        by None e = stuck (late s0 V H (either (names.is_variable S w)))
+        by None e = stuck (late s0 V H (either (names.is_variable S w) (unless_declared S w e (names.is_variable S w) refl)))
         by (Some x) e = read (Word w ∷ []) (w, refl, declared_at S w x.0 x.1 e) H
 
     declared_reading : IsReaderOf (Words s0 V) (λ x us. (w : List ℕ) × (us ≡ Word w ∷ []) × Declares S w x.0 x.1) (names.declared S)
     unfolding names.declared
     declared_reading ws t H v k = reading_next s0 V (λ e. e) (λ t. names.declared_by S t.0 t.1) (not_here t) refl H v (λ tok u Hu. declared_by_reading ws tok u Hu k)
 
+    -- A name of this kind is refused so.
+    abbrev Refused : Kind → FaultKind → Type 0
+    Refused k fault = (ts us vs : List Token) (w : List ℕ) (i : ℕ) → Declares S w i k → us ≡ Word w ∷ vs → Words s0 V ts → Fits s0 V fault ts us
+
     -- a kind that isn't taken
     abbrev Refuses : (Kind → Option FaultKind) → Type 0
-    Refuses kept = (k : Kind) → IfSome (kept k) (λ fault. (ts us : List Token) → Words s0 V ts × BeginsWithWord us → Fits s0 V fault ts us)
+    Refuses kept = (k : Kind) → IfSome (kept k) (Refused k)
 
     of_kind_reading : (Is : List ℕ → ℕ → Type 0) (kept : Kind → Option FaultKind) → Refuses kept → ((w : List ℕ) (i : ℕ) (v : Value) → slice_get S.values i ≡ Some (w, v) → kept (kind v) ≡ None → Is w i)
         → (ws : List Token) (r : Answer (ℕ × Kind)) → Words s0 V ws → Reading s0 V (λ e. e) (λ x us. (w : List ℕ) × (us ≡ Word w ∷ []) × Declares S w x.0 x.1) ws r
         → Reading s0 V (λ e. e) (λ x us. (tok : Token) × (us ≡ tok ∷ []) × IsName Is x tok) ws (r >>= names.of_kind kept)
     of_kind_reading Is kept refuses each ws r k h = then_reading s0 V (λ e. e) (names.of_kind kept) h (λ x us u d Hu. by x us u d Hu (kept x.1) refl (refuses x.1))
       where
-        by : (x : ℕ × Kind) (us : List Token) (u : State) → (w : List ℕ) × (us ≡ Word w ∷ []) × Declares S w x.0 x.1 → SoFar s0 V (ws ++ us) u → (o : Option FaultKind) → kept x.1 ≡ o → IfSome o (λ fault. (ts us : List Token) → Words s0 V ts × BeginsWithWord us → Fits s0 V fault ts us)
+        by : (x : ℕ × Kind) (us : List Token) (u : State) → (w : List ℕ) × (us ≡ Word w ∷ []) × Declares S w x.0 x.1 → SoFar s0 V (ws ++ us) u → (o : Option FaultKind) → kept x.1 ≡ o → IfSome o (Refused x.1)
             → Reading s0 V (λ e. e) (λ x us. (tok : Token) × (us ≡ tok ∷ []) × IsName Is x tok) ws (option_map_or (λ fault. Err (fault_at fault u)) o (Ok (x.0, u)))
-        by x us u d Hu (Some fault) e fits = stuck (late s0 V Hu (fits (toks Hu.reached.init) (Hu.reached.last.token ∷ toks u.left) (words_at s0 V Hu d.1 k)))
+        by x us u d Hu (Some fault) e fits = stuck (late s0 V Hu (fits (toks Hu.reached.init) (Hu.reached.last.token ∷ toks u.left) (toks u.left) d.0 x.0 d.2 (ap (λ t. t ∷ toks u.left) (sym (last_is s0 V ws us [] (Word d.0) Hu d.1))) (subst (Words s0 V) (sym (append-nil ws) ∙ init_is s0 V ws us [] (Word d.0) Hu d.1) k)))
         by x us u d Hu None e fits = read us (Word d.0, d.1, (d.0, refl, each d.0 x.0 d.2.0 d.2.1 (ap kept d.2.2 ∙ e))) Hu
 
     polynomial_refused : Refuses names.as_polynomial
     polynomial_refused values.Nonconstant = tt
     polynomial_refused values.Constant = tt
-    polynomial_refused values.Ideal = λ ts us k. k
-    polynomial_refused values.Point = λ ts us k. k
+    polynomial_refused values.Ideal = λ ts us vs w i d e k. (k, (w, vs, e, N.other ts w (declared_name S w i values.Ideal d)))
+    polynomial_refused values.Point = λ ts us vs w i d e k. (k, (w, vs, e, N.other ts w (declared_name S w i values.Point d)))
 
     nonconstant_refused : Refuses names.as_nonconstant
     nonconstant_refused values.Nonconstant = tt
-    nonconstant_refused values.Constant = λ ts us k. k
-    nonconstant_refused values.Ideal = λ ts us k. k
-    nonconstant_refused values.Point = λ ts us k. k
+    nonconstant_refused values.Constant = λ ts us vs w i d e k. let x = declared_constant S w i d in (k, (w, vs, e, N.constant ts w x.0 x.1 x.2))
+    nonconstant_refused values.Ideal = λ ts us vs w i d e k. (k, (w, vs, e, N.other ts w (declared_name S w i values.Ideal d)))
+    nonconstant_refused values.Point = λ ts us vs w i d e k. (k, (w, vs, e, N.other ts w (declared_name S w i values.Point d)))
 
     ideal_refused : Refuses names.as_ideal
-    ideal_refused values.Nonconstant = λ ts us k. k
-    ideal_refused values.Constant = λ ts us k. k
+    ideal_refused values.Nonconstant = λ ts us vs w i d e k. (k, (w, vs, e, N.other ts w (declared_name S w i values.Nonconstant d)))
+    ideal_refused values.Constant = λ ts us vs w i d e k. (k, (w, vs, e, N.other ts w (declared_name S w i values.Constant d)))
     ideal_refused values.Ideal = tt
-    ideal_refused values.Point = λ ts us k. k
+    ideal_refused values.Point = λ ts us vs w i d e k. (k, (w, vs, e, N.other ts w (declared_name S w i values.Point d)))
 
     point_refused : Refuses names.as_point
-    point_refused values.Nonconstant = λ ts us k. k
-    point_refused values.Constant = λ ts us k. k
-    point_refused values.Ideal = λ ts us k. k
+    point_refused values.Nonconstant = λ ts us vs w i d e k. (k, (w, vs, e, N.other ts w (declared_name S w i values.Nonconstant d)))
+    point_refused values.Constant = λ ts us vs w i d e k. (k, (w, vs, e, N.other ts w (declared_name S w i values.Constant d)))
+    point_refused values.Ideal = λ ts us vs w i d e k. (k, (w, vs, e, N.other ts w (declared_name S w i values.Ideal d)))
     point_refused values.Point = tt
 
     pub polynomial_reading : IsArgument (Words s0 V) (IsName (NamesPolynomial S)) (names.polynomial S)
@@ -209,8 +231,8 @@ module _ (s0 : State) (V : Sayings) where
             → Reading s0 V (λ e. e) (λ x us. (tok : Token) × (us ≡ tok ∷ []) × IsTarget x tok) ws (question.target_of ((i, k), u))
         by i values.Ideal us u d Hu = read us (Word d.0, d.1, (d.0, refl, as_ideal S d.0 i d.2.0 d.2.1 (ap names.as_ideal d.2.2))) Hu
         by i values.Point us u d Hu = read us (Word d.0, d.1, (d.0, refl, as_point S d.0 i d.2.0 d.2.1 (ap names.as_point d.2.2))) Hu
-        by i values.Nonconstant us u d Hu = stuck (late s0 V Hu (words_at s0 V Hu d.1 k))
-        by i values.Constant us u d Hu = stuck (late s0 V Hu (words_at s0 V Hu d.1 k))
+        by i values.Nonconstant us u d Hu = stuck (late s0 V Hu (words_at s0 V kinds.Kind Hu d.1 k (N.other ws d.0 (declared_name S d.0 i values.Nonconstant d.2))))
+        by i values.Constant us u d Hu = stuck (late s0 V Hu (words_at s0 V kinds.Kind Hu d.1 k (N.other ws d.0 (declared_name S d.0 i values.Constant d.2))))
 
   -- ---- questions of one, two and three such arguments
 
@@ -241,6 +263,10 @@ module _ (s0 : State) (V : Sayings) where
         (λ z ws o l Ho. read ws (subst (Q (q x y z)) (sym l.1) (is x y z h.0 k.0 l.0 h.2 k.2 l.2)) Ho)))
 
 -- ---- the questions of a session
+
+-- what words of a line are wrong
+pub words_behind : (s0 : State) (S : Session) → KnowsWords s0 (behind_lines (Some S)) S
+words_behind s0 S = record { unknown = λ ts w h. wrong.unknown h; other = λ ts w h. wrong.other h; constant = λ ts w f h c. wrong.constant h c }
 
 module _ (s0 : State) (S : Session) (known : Contains primes S.prime) where
   -- A question of a session with more names begins so, and with this token.
@@ -302,7 +328,7 @@ module _ (s0 : State) (S : Session) (known : Contains primes S.prime) where
     follows = λ ts i w h. (w, inr h);
     lift = λ n i w h. wide_polynomial S n w i h;
     default = λ n. (length S.values + 0, fresh (n + 1), some_polynomial S n);
-    reads = polynomial_reading s0 (behind_lines (Some S)) S;
+    reads = polynomial_reading s0 (behind_lines (Some S)) S (words_behind s0 S);
   }
 
   unfoldable pub nonconstant_argument : Argument ℕ
@@ -316,7 +342,7 @@ module _ (s0 : State) (S : Session) (known : Contains primes S.prime) where
     follows = λ ts i w h. (w, inr h);
     lift = λ n i w h. wide_nonconstant S n w i h;
     default = λ n. (length S.values + 0, fresh (n + 1), some_nonconstant S n);
-    reads = nonconstant_reading s0 (behind_lines (Some S)) S;
+    reads = nonconstant_reading s0 (behind_lines (Some S)) S (words_behind s0 S);
   }
 
   unfoldable pub ideal_argument : Argument ℕ
@@ -330,7 +356,7 @@ module _ (s0 : State) (S : Session) (known : Contains primes S.prime) where
     follows = λ ts i w h. (w, inr h);
     lift = λ n i w h. wide_ideal S n w i h;
     default = λ n. (length S.values + 1, fresh (n + 2), some_ideal S n);
-    reads = ideal_reading s0 (behind_lines (Some S)) S;
+    reads = ideal_reading s0 (behind_lines (Some S)) S (words_behind s0 S);
   }
 
   abbrev pub TargetIn : Session → Target → List ℕ → Type 0
@@ -348,18 +374,18 @@ module _ (s0 : State) (S : Session) (known : Contains primes S.prime) where
     follows = λ ts x w h. (w, inr h);
     lift = lifted;
     default = λ n. (question.Ideal (length S.values + 1), fresh (n + 2), some_ideal S n);
-    reads = λ ws t H v k. seen ws (question.target_at S t) (target_reading s0 (behind_lines (Some S)) S ws t H v k);
+    reads = λ ws t H v k. seen ws (question.target_at S t) (target_reading s0 (behind_lines (Some S)) S (words_behind s0 S) ws t H v k);
   }
     where
       lifted : (n : ℕ) (x : Target) (w : List ℕ) → TargetIn S x w → TargetIn (wide S n) x w
       lifted n (question.Ideal j) w h = wide_ideal S n w j h
       lifted n (question.Point at) w h = wide_point S n w at h
 
-      here : (x : Target) (tok : Token) → IsTarget s0 (behind_lines (Some S)) S x tok → (w : List ℕ) × (tok ≡ Word w) × TargetIn S x w
+      here : (x : Target) (tok : Token) → IsTarget s0 (behind_lines (Some S)) S (words_behind s0 S) x tok → (w : List ℕ) × (tok ≡ Word w) × TargetIn S x w
       here (question.Ideal j) tok h = h
       here (question.Point at) tok h = h
 
-      seen : (ws : List Token) (r : Answer Target) → Reading s0 (behind_lines (Some S)) (λ e. e) (λ x us. (tok : Token) × (us ≡ tok ∷ []) × IsTarget s0 (behind_lines (Some S)) S x tok) ws r
+      seen : (ws : List Token) (r : Answer Target) → Reading s0 (behind_lines (Some S)) (λ e. e) (λ x us. (tok : Token) × (us ≡ tok ∷ []) × IsTarget s0 (behind_lines (Some S)) S (words_behind s0 S) x tok) ws r
           → Reading s0 (behind_lines (Some S)) (λ e. e) (λ x us. (tok : Token) × (us ≡ tok ∷ []) × ((w : List ℕ) × (tok ≡ Word w) × TargetIn S x w)) ws r
       seen ws r (read {x = x} us h H) = read us (h.0, h.1, here x h.0 h.2) H
       seen ws r (stuck H) = stuck H

@@ -26,8 +26,8 @@ use Rattle.fj_script.specs.Question as question
 use Rattle.fj_script.specs.Question.{Target}
 use Rattle.fj_script.specs.Session.{Session}
 use Rattle.fj_script.proofs.AcceptedYields.{Yields}
-use Rattle.fj_grammar.proofs.Beginnings.{BeginsWithNumber, Numbers, Reached, Reading, Sayings, SoFar, Words, behind, init_is, last_is, late, number_first, number_narrow, numbers_at, read, sign_reached, stuck, taken, then_reading, toks}
-use Rattle.fj_grammar.proofs.BeginningLines.{Asks, MayStand, TargetIn, argument_next, ask_goes, ask_with, asks_one, asks_three, asks_two, behind_lines, exponent_argument, ideal_argument, ideal_reading, level_argument, narrow_reading, nonconstant_argument, nonconstant_reading, point_by_reading, polynomial_argument, target_argument, word_reading}
+use Rattle.fj_grammar.proofs.Beginnings.{Numbers, Reached, Reading, Sayings, SoFar, Words, WrongNumber, behind, init_is, last_is, late, number_first, number_narrow, numbers_at, read, sign_reached, stuck, taken, then_reading, toks}
+use Rattle.fj_grammar.proofs.BeginningLines.{Asks, MayStand, TargetIn, argument_next, ask_goes, ask_with, asks_one, asks_three, asks_two, behind_lines, exponent_argument, ideal_argument, ideal_reading, level_argument, narrow_reading, nonconstant_argument, nonconstant_reading, point_by_reading, polynomial_argument, target_argument, word_reading, words_behind}
 use Rattle.fj_grammar.proofs.Continuations.{fresh, longest, nothing_ratio, one_above, one_ratio, some_ideal, some_nonconstant, some_point, whole_ratio, wide, wide_ideal, wide_nonconstant, zero_ratio}
 use Rattle.fj_grammar.proofs.ExpressionEnds.{IsNarrow}
 use Rattle.fj_grammar.proofs.GrammarPieces.{Taken, ratio_of_takes}
@@ -36,7 +36,7 @@ use Rattle.fj_grammar.proofs.GrammarSound.{ask_is, ask_word}
 -- ---- fractions
 
 module _ (s0 : State) (V : Sayings) where
-  ratio_of_reading : (positive : Bool) (m n : ℕ) → m < 2 ^ 32 → n < 2 ^ 32 → (ts us : List Token) (u : State) (H : SoFar s0 V (ts ++ us) u) → (Numbers s0 V (toks H.reached.init) × BeginsWithNumber (H.reached.last.token ∷ toks u.left)) × IsNarrow H.reached.last.token
+  ratio_of_reading : (positive : Bool) (m n : ℕ) → m < 2 ^ 32 → n < 2 ^ 32 → (ts us : List Token) (u : State) (H : SoFar s0 V (ts ++ us) u) → (Numbers s0 V (toks H.reached.init) × WrongNumber s0 V kinds.Range (toks H.reached.init) (H.reached.last.token ∷ toks u.left)) × IsNarrow H.reached.last.token
       → Reading s0 V (λ e. e) (λ t vs. (vs ≡ us) × Taken positive m n t) ts (numbers.ratio_of positive m n u)
   unfolding numbers.ratio_of
   ratio_of_reading positive m n few fewer ts us u H k = by (numbers.lowest m n) (ratio_of_takes positive m n u few fewer)
@@ -62,10 +62,10 @@ module _ (s0 : State) (V : Sayings) where
       Goal t us = IsRatio us t × (positive ≡ true → 0 < t.numerator)
 
       -- the last number of a fraction
-      last_of : (m n : ℕ) (vs : List Token) (y : State) → vs ≡ Number m ∷ Sign slash ∷ Number n ∷ [] → n < 2 ^ 32 → (Hy : SoFar s0 V (ws ++ vs) y) → Numbers s0 V (ws ++ Number m ∷ Sign slash ∷ []) → (Numbers s0 V (toks Hy.reached.init) × BeginsWithNumber (Hy.reached.last.token ∷ toks y.left)) × IsNarrow Hy.reached.last.token
+      last_of : (m n : ℕ) (vs : List Token) (y : State) → vs ≡ Number m ∷ Sign slash ∷ Number n ∷ [] → n < 2 ^ 32 → (Hy : SoFar s0 V (ws ++ vs) y) → Numbers s0 V (ws ++ Number m ∷ Sign slash ∷ []) → (Numbers s0 V (toks Hy.reached.init) × WrongNumber s0 V kinds.Range (toks Hy.reached.init) (Hy.reached.last.token ∷ toks y.left)) × IsNarrow Hy.reached.last.token
       last_of m n vs y e few Hy k =
           let front : List Token = Number m ∷ Sign slash ∷ [] in
-          ((subst (Numbers s0 V) (init_is s0 V ws vs front (Number n) Hy e) k, number_first s0 V ws vs front n Hy e), subst IsNarrow (last_is s0 V ws vs front (Number n) Hy e) few)
+          ((subst (Numbers s0 V) (init_is s0 V ws vs front (Number n) Hy e) k, number_first s0 V kinds.Range ws vs front n Hy e (V.narrow k.0 (ws ++ front) n few)), subst IsNarrow (last_is s0 V ws vs front (Number n) Hy e) few)
 
       whole : (m : ℕ) (us : List Token) → us ≡ Number m ∷ [] → (r : Answer Fraction) → Reading s0 V (λ e. e) (λ t vs. (vs ≡ us) × Taken positive m 1 t) ws r → Reading s0 V (λ e. e) Goal ws r
       whole m us e r (read {x = x} vs h K) = read vs (subst (λ ts. IsRatio ts x) (sym (h.0 ∙ e)) (grammar.whole h.1.0), h.1.1) K
@@ -77,7 +77,7 @@ module _ (s0 : State) (V : Sayings) where
 
       by : (m : ℕ) (us : List Token) (u : State) → (us ≡ Number m ∷ []) × (m < 2 ^ 32) → SoFar s0 V (ws ++ us) u → (o : Option State) → after_sign slash u ≡ o
           → Reading s0 V (λ e. e) Goal ws (option_map_or (λ t. narrow t >>= λ n. numbers.ratio_of positive m n.0 n.1) o (numbers.ratio_of positive m 1 u))
-      by m us u h Hu None e = whole m us h.0 _ (ratio_of_reading positive m 1 h.1 (omega arith) ws us u Hu (numbers_at s0 V Hu h.0 k, number_narrow s0 V ws Hu h.0 h.1))
+      by m us u h Hu None e = whole m us h.0 _ (ratio_of_reading positive m 1 h.1 (omega arith) ws us u Hu (numbers_at s0 V kinds.Range Hu h.0 k (V.narrow k.0 ws m h.1), number_narrow s0 V ws Hu h.0 h.1))
       by m us u h Hu (Some x) e =
           let slashed = sign_reached s0 slash u x Hu.reached e in
           let here : (ws ++ us) ++ Sign slash ∷ [] ≡ ws ++ Number m ∷ Sign slash ∷ [] = append_assoc ws us (Sign slash ∷ []) ∙ ap (λ vs. ws ++ (vs ++ Sign slash ∷ [])) h.0 in
@@ -95,7 +95,7 @@ module _ (s0 : State) (S : Session) (known : Contains primes S.prime) where
   test_reading which t H =
       let named = argument_next s0 S known (nonconstant_argument s0 S known) (Word (ask_word (asks.TestIdeal which)) ∷ [])
       (λ n. (Number 1 ∷ [], _, wide_test which n (fresh (n + 1)) (length S.values + 0) (some_nonconstant S n) (Number 1 ∷ []) one_ratio (grammar.whole (whole_ratio 1 (omega arith) (omega arith))) (λ _. one_above))) in
-      then_reading s0 (behind_lines (Some S)) (λ e. e) _ (nonconstant_reading s0 (behind_lines (Some S)) S (Word (codes "ask") ∷ Word (ask_word (asks.TestIdeal which)) ∷ []) t H.reached named.0 named.1)
+      then_reading s0 (behind_lines (Some S)) (λ e. e) _ (nonconstant_reading s0 (behind_lines (Some S)) S (words_behind s0 S) (Word (codes "ask") ∷ Word (ask_word (asks.TestIdeal which)) ∷ []) t H.reached named.0 named.1)
       (λ f us u h Hu. let w = h.2.0 in
       let is : us ≡ Word w ∷ [] = h.1 ∙ ap (λ tok. tok ∷ []) h.2.1 in
       let Hw = subst (λ ws. SoFar s0 (behind_lines (Some S)) (Word (codes "ask") ∷ Word (ask_word (asks.TestIdeal which)) ∷ ws) u) is Hu in
@@ -154,7 +154,7 @@ module _ (s0 : State) (S : Session) (known : Contains primes S.prime) where
   unfolding question.pure next ideal_argument
   pure_reading t H =
       let named = argument_next s0 S known (ideal_argument s0 S known) (Word (codes "fpure") ∷ []) (λ n. ([], _, grammar.fpure (some_ideal S n))) in
-      then_reading s0 (behind_lines (Some S)) (λ e. e) _ (ideal_reading s0 (behind_lines (Some S)) S (Word (codes "ask") ∷ Word (codes "fpure") ∷ []) t H.reached named.0 named.1)
+      then_reading s0 (behind_lines (Some S)) (λ e. e) _ (ideal_reading s0 (behind_lines (Some S)) S (words_behind s0 S) (Word (codes "ask") ∷ Word (codes "fpure") ∷ []) t H.reached named.0 named.1)
       (λ j us u h Hu. by j h.2.0 h.2.2 us (h.1 ∙ ap (λ tok. tok ∷ []) h.2.1) u Hu u.left refl)
     where
       base : List Token
@@ -173,7 +173,7 @@ module _ (s0 : State) (S : Session) (known : Contains primes S.prime) where
       by j w h us e u Hu (p ∷ rest) is =
           let Hw = subst (λ ws. SoFar s0 (behind_lines (Some S)) (base ++ ws) u) e Hu in
           let v = ask_goes s0 S known (Word (codes "fpure") ∷ Word w ∷ []) (λ n. ([], _, grammar.fpure (wide_ideal S n w j h))) in
-          let point = point_by_reading s0 (behind_lines (Some S)) S (Word (codes "ask") ∷ Word (codes "fpure") ∷ Word w ∷ []) p.token (after p rest) (taken s0 (behind_lines (Some S)) Hw.reached v p rest is) (point_next w j h) in
+          let point = point_by_reading s0 (behind_lines (Some S)) S (words_behind s0 S) (Word (codes "ask") ∷ Word (codes "fpure") ∷ Word w ∷ []) p.token (after p rest) (taken s0 (behind_lines (Some S)) Hw.reached v p rest is) (point_next w j h) in
           then_reading s0 (behind_lines (Some S)) (λ e. e) _
           (behind s0 (behind_lines (Some S)) (λ e. e) {R = λ i ws. (x : List ℕ) × (ws ≡ Word w ∷ Word x ∷ []) × NamesPoint S x i} base (Word w ∷ []) _ point (λ i vs k. (k.2.0, ap (λ xs. Word w ∷ xs) (k.1 ∙ ap (λ tok. tok ∷ []) k.2.1), k.2.2)))
           (λ i ws y k Hy. read ws (subst (λ vs. Asks s0 S known (codes "fpure") (questions.PureAt j i) vs) (sym k.1) (grammar.fpure_at h k.2)) Hy)

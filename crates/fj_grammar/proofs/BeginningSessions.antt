@@ -24,6 +24,12 @@ use Rattle.fj_grammar.specs.Grammar.{AreListed, AreStatements, IsQuestion, IsRin
 use Rattle.fj_script.specs.Items.{at_end, comma, number, word_of}
 use Rattle.fj_script.specs.LineFault.{◌>>=◌, fault_at}
 use Rattle.fj_grammar.specs.Rank as rank
+use Rattle.fj_grammar.specs.Wrong as wrong
+use Rattle.fj_grammar.specs.Wrong.{IsWrong}
+use Rattle.fj_grammar.proofs.GrammarComplete.{prime_tested}
+use Rattle.fj_grammar.proofs.NamesOf.{found_among}
+use Rattle.fj_script.specs.declared.fault.FaultKind.{FaultKind}
+use Rattle.std.proofs.lemmas.List.Elements.{Contains-append_left}
 use Rattle.fj_script.specs.Ring as rings
 use Rattle.fj_script.specs.Script.{from_line, lines}
 use Rattle.fj_script.specs.Session.{Session, new_session}
@@ -32,7 +38,7 @@ use Rattle.fj_script.proofs.AcceptedYields.{yielded}
 use Rattle.fj_grammar.proofs.FirstFault.{FirstWrong, first_wrong, line_is, lines_wrong, no_tokens}
 use Rattle.fj_grammar.proofs.Rising.{AreRising, line_rises, none_before, rising_behind, starts_before, starts_below}
 use Rattle.fj_grammar.proofs.TwoReadings.{line_from}
-use Rattle.fj_grammar.proofs.Beginnings.{BeginsWithWord, Reading, SoFar, StandsAt, Stuck, Took, Words, behind, caused, init_is, late, number_first, read, reading_if, sound, stuck, then_reading, toks, word_first, wrong_token}
+use Rattle.fj_grammar.proofs.Beginnings.{Reading, SoFar, StandsAt, Stuck, Took, Words, WrongWord, behind, caused, init_is, late, number_first, read, reading_if, sound, stuck, then_reading, toks, word_first, wrong_token}
 use Rattle.fj_grammar.proofs.BeginningLines.{MayFollow, MayStand, ask_goes, behind_lines, number_reading, within_reading, word_reading}
 use Rattle.fj_grammar.proofs.BeginningQuestions.{question_reading}
 use Rattle.fj_grammar.proofs.BeginningStatements.{IsStopped, bare, bare_alike, ideal_stopped, listed_more, listed_reading, point_stopped, poly_stopped, reading_with, stop_end, stop_if, stop_then}
@@ -57,6 +63,12 @@ module _ (s0 : State) where
   listed_length : {us : List Token} {vs : List (List ℕ)} → AreListed IsVariable us vs → length us + 1 ≡ 2 * length vs
   listed_length (grammar.last grammar.variable) = omega arith
   listed_length (grammar.more {ts = ts} {us = us} grammar.variable l) = let rest = listed_length l in omega (arith, rest)
+
+  listed_words : {us : List Token} {vs : List (List ℕ)} → AreListed IsVariable us vs → (w : List ℕ) → Contains vs w → Contains us (Word w)
+  listed_words (grammar.last grammar.variable) w (zero, inside, is) = (0, omega arith, ap Word is)
+  listed_words (grammar.last grammar.variable) w (suc k, inside, is) = absurd (omega (arith, inside))
+  listed_words (grammar.more grammar.variable l) w (zero, inside, is) = (0, omega arith, ap Word is)
+  listed_words (grammar.more grammar.variable l) w (suc k, inside, is) = let x = listed_words l w (k, omega (arith, inside), is) in (suc (suc x.0), omega (arith, x.1), x.2)
 
   -- one variable more
   variables_more : (vs : List (List ℕ)) (us : List Token) (w : List ℕ) → Variables vs us → length vs < 7 → All (λ v. v ≢ w) vs → Variables (vs ++ w ∷ []) (us ++ Sign comma ∷ Word w ∷ [])
@@ -103,7 +115,7 @@ module _ (s0 : State) where
       plain : Reading s0 (behind_lines None) (λ e. e) (λ p us. us ≡ Number p ∷ []) (Word (codes "ring") ∷ []) (rings.prime t)
       plain =
           then_reading s0 (behind_lines None) (λ e. e) _ (number_reading s0 (behind_lines None) (Word (codes "ring") ∷ []) t H.reached ring_begins)
-          (λ n us u e Hu. reading_if s0 (behind_lines None) (λ e. e) (rings.is_prime n) _ _ (λ _. read us e Hu) (λ _. stuck (late s0 (behind_lines None) Hu ((2, subst (λ ts. MayFollow None ts (Number 2)) (init_is s0 (behind_lines None) (Word (codes "ring") ∷ []) us [] (Number n) Hu e) (inl ring_with_prime)), number_first s0 (behind_lines None) (Word (codes "ring") ∷ []) us [] n Hu e))))
+          (λ n us u e Hu. reading_if s0 (behind_lines None) (λ e. e) (rings.is_prime n) _ _ (λ _. read us e Hu) (λ no. stuck (late s0 (behind_lines None) Hu ((2, subst (λ ts. MayFollow None ts (Number 2)) (init_is s0 (behind_lines None) (Word (codes "ring") ∷ []) us [] (Number n) Hu e) (inl ring_with_prime)), number_first s0 (behind_lines None) kinds.Prime (Word (codes "ring") ∷ []) us [] n Hu e (wrong.no_prime (λ known. absurd (let both = sym no ∙ prime_tested n known in cc)))))))
 
   module _ (p : ℕ) (known : Contains primes p) where
     variable_more : (vs : List (List ℕ)) (us : List Token) (t : State) → Variables vs us → SoFar s0 (behind_lines None) ((Word (codes "ring") ∷ Number p ∷ []) ++ (us ++ Sign comma ∷ [])) t
@@ -113,24 +125,27 @@ module _ (s0 : State) where
         then_reading s0 (behind_lines None) (λ e. e) _
         (behind s0 (behind_lines None) (λ e. e) {Q = λ w ws. ws ≡ Word w ∷ []} {R = λ w ws. ws ≡ us ++ Sign comma ∷ Word w ∷ []} (Word (codes "ring") ∷ Number p ∷ []) (us ++ Sign comma ∷ []) _
         (word_reading s0 (behind_lines None) (Word (codes "ring") ∷ Number p ∷ (us ++ Sign comma ∷ [])) t H.reached (ring_comma p vs us known l)) (λ w ws e. ap (λ xs. (us ++ Sign comma ∷ []) ++ xs) e ∙ append_assoc us (Sign comma ∷ []) (Word w ∷ [])))
-        (λ w ws u e Hu. reading_if s0 (behind_lines None) (λ e. e) (leb 7 (length vs)) _ _ (λ many. stuck (late s0 (behind_lines None) Hu (subst (Words s0 (behind_lines None)) (before_word ws w e Hu) (w, inr (inr (eighth l (leb-true 7 (length vs) many)))), variable_there ws w e Hu)))
-        (λ few. reading_if s0 (behind_lines None) (λ e. e) (is_some (place_of vs w)) _ _ (λ _. stuck (late s0 (behind_lines None) Hu (taken_early ws w e Hu (leb-false 7 (length vs) few))))
+        (λ w ws u e Hu. reading_if s0 (behind_lines None) (λ e. e) (leb 7 (length vs)) _ _ (λ many. let doomed = eighth l (leb-true 7 (length vs) many) in stuck (late s0 (behind_lines None) Hu (subst (Words s0 (behind_lines None)) (before_word ws w e Hu) (w, inr (inr doomed)), variable_there kinds.Vars ws w e Hu (wrong.eighth doomed))))
+        (λ few. reading_if s0 (behind_lines None) (λ e. e) (is_some (place_of vs w)) _ _ (λ yes. stuck (late s0 (behind_lines None) Hu (taken_early ws w e Hu (leb-false 7 (length vs) few) (found_among vs w yes))))
         (λ new. read ws (subst (Variables (vs ++ w ∷ [])) (sym e) (variables_more vs us w l (leb-false 7 (length vs) few) (λ i d inside. unlike w vs (nothing_found _ new) i d inside))) Hu)))
       where
         before_word : (ws : List Token) (w : List ℕ) {u : State} → ws ≡ us ++ Sign comma ∷ Word w ∷ [] → (Hu : SoFar s0 (behind_lines None) ((Word (codes "ring") ∷ Number p ∷ []) ++ ws) u) → Word (codes "ring") ∷ Number p ∷ (us ++ Sign comma ∷ []) ≡ toks Hu.reached.init
         before_word ws w e Hu = init_is s0 (behind_lines None) (Word (codes "ring") ∷ Number p ∷ []) ws (us ++ Sign comma ∷ []) (Word w) Hu (e ∙ sym (append_assoc us (Sign comma ∷ []) (Word w ∷ [])))
 
-        variable_there : (ws : List Token) (w : List ℕ) {u : State} → ws ≡ us ++ Sign comma ∷ Word w ∷ [] → (Hu : SoFar s0 (behind_lines None) ((Word (codes "ring") ∷ Number p ∷ []) ++ ws) u) → BeginsWithWord (Hu.reached.last.token ∷ toks u.left)
-        variable_there ws w e Hu = word_first s0 (behind_lines None) (Word (codes "ring") ∷ Number p ∷ []) ws (us ++ Sign comma ∷ []) w Hu (e ∙ sym (append_assoc us (Sign comma ∷ []) (Word w ∷ [])))
+        variable_there : (k : FaultKind) (ws : List Token) (w : List ℕ) {u : State} → ws ≡ us ++ Sign comma ∷ Word w ∷ [] → (Hu : SoFar s0 (behind_lines None) ((Word (codes "ring") ∷ Number p ∷ []) ++ ws) u) → IsWrong None (Word (codes "ring") ∷ Number p ∷ (us ++ Sign comma ∷ [])) k (Word w) → WrongWord s0 (behind_lines None) k (toks Hu.reached.init) (Hu.reached.last.token ∷ toks u.left)
+        variable_there k ws w e Hu is = word_first s0 (behind_lines None) k (Word (codes "ring") ∷ Number p ∷ []) ws (us ++ Sign comma ∷ []) w Hu (e ∙ sym (append_assoc us (Sign comma ∷ []) (Word w ∷ []))) is
+
+        among : (xs : List Token) (x : Token) → Contains xs x → Contains (Number p ∷ xs) x
+        among xs x (k, inside, is) = (suc k, omega (arith, inside), is)
 
         -- a variable that is taken is one of the first seven
-        taken_early : (ws : List Token) (w : List ℕ) {u : State} → ws ≡ us ++ Sign comma ∷ Word w ∷ [] → (Hu : SoFar s0 (behind_lines None) ((Word (codes "ring") ∷ Number p ∷ []) ++ ws) u) → length vs < 7
-            → (Words s0 (behind_lines None) (toks Hu.reached.init) × BeginsWithWord (Hu.reached.last.token ∷ toks u.left)) × (⊥ ⊎ (length (toks Hu.reached.init) ≤ 14))
-        taken_early ws w {u} e Hu few =
+        taken_early : (ws : List Token) (w : List ℕ) {u : State} → ws ≡ us ++ Sign comma ∷ Word w ∷ [] → (Hu : SoFar s0 (behind_lines None) ((Word (codes "ring") ∷ Number p ∷ []) ++ ws) u) → length vs < 7 → Contains vs w
+            → (Words s0 (behind_lines None) (toks Hu.reached.init) × WrongWord s0 (behind_lines None) kinds.Taken (toks Hu.reached.init) (Hu.reached.last.token ∷ toks u.left)) × (⊥ ⊎ (length (toks Hu.reached.init) ≤ 14))
+        taken_early ws w {u} e Hu few there =
             let before = before_word ws w e Hu in
             let same = ap length before in
             let long = length-append us (Sign comma ∷ []) in
-            ((subst (Words s0 (behind_lines None)) before (other_word vs, inr (inl (variable_next p vs us known l few))), variable_there ws w e Hu), inr (omega (arith, same, long, few, listed_length l.0)))
+            ((subst (Words s0 (behind_lines None)) before (other_word vs, inr (inl (variable_next p vs us known l few))), variable_there kinds.Taken ws w e Hu (wrong.again (among (us ++ Sign comma ∷ []) (Word w) (Contains-append_left us (Sign comma ∷ []) (Word w) (listed_words l.0 w there))))), inr (omega (arith, same, long, few, listed_length l.0)))
 
     variable_first : (t : State) → SoFar s0 (behind_lines None) (Word (codes "ring") ∷ Number p ∷ []) t
         → Reading s0 (behind_lines None) (λ e. e) (λ w ws. Variables (w ∷ []) ws) (Word (codes "ring") ∷ Number p ∷ []) (rings.variable [] t)

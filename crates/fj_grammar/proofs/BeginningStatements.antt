@@ -33,6 +33,8 @@ use Rattle.fj_grammar.specs.Large as large
 use Rattle.fj_grammar.specs.Large.{HasLarge, IsLargeIn}
 use Rattle.fj_grammar.specs.Rank as rank
 use Rattle.fj_grammar.specs.Rank.{AreTooMany}
+use Rattle.fj_grammar.specs.Wrong as wrong
+use Rattle.fj_grammar.proofs.NamesOf.{name_of, other_meaning, unknown_meaning}
 use Rattle.fj_script.specs.Session.{Session, Terms, Ideal, Point, declare, terms_in}
 use Rattle.fj_script.proofs.AcceptedYields.{Yields}
 use Rattle.fj_grammar.proofs.BeginningExpressions.{Whole, expression_reading}
@@ -161,7 +163,7 @@ module _ (s0 : State) (S : Session) (known : Contains primes S.prime) (some_vari
   unfolding declaration.expression
   terms_reading ws t H K C =
       by (text.expression (prime_field S.prime) (names.meaning S) t)
-      (expression_reading (IsField-prime_field S.prime known) (names.meaning S) s0 (behind_lines (Some S)) tt variable_known.0 variable_known.1 variable_known.2 ws t H (λ us g. K us (g.0, terms_falling grevlex_key g.1, read_whole g.1 (us ++ g.0) g.2)) (λ us g. C us (large_along (among_variables S) g)))
+      (expression_reading (IsField-prime_field S.prime known) (names.meaning S) s0 (behind_lines (Some S)) tt variable_known.0 variable_known.1 variable_known.2 (λ ts w e. wrong.unknown (unknown_meaning S w e)) (λ ts w e. wrong.other (other_meaning S w e)) ws t H (λ us g. K us (g.0, terms_falling grevlex_key g.1, read_whole g.1 (us ++ g.0) g.2)) (λ us g. C us (large_along (among_variables S) g)))
     where
       by : (r : text.Answer Polynomial) → Reading s0 (behind_lines (Some S)) fault_of (Whole (IsField-prime_field S.prime known) (names.meaning S) 64) ws r → Reading s0 (behind_lines (Some S)) (λ e. e) IsRead ws (declaration.of_text r)
       by r (read {x = f} us h Hu) = read us (read_whole f us h) Hu
@@ -186,7 +188,7 @@ module _ (s0 : State) (S : Session) (known : Contains primes S.prime) (some_vari
       plain : Reading s0 (behind_lines (Some S)) (λ e. e) (λ name us. us ≡ Word name ∷ []) (Word kw ∷ []) (names.new_name S t)
       plain =
           then_reading s0 (behind_lines (Some S)) (λ e. e) _ (word_reading s0 (behind_lines (Some S)) (Word kw ∷ []) t H.reached v)
-          (λ w us u e Hu. reading_if s0 (behind_lines (Some S)) (λ e. e) (names.is_variable S w || is_some (place_of (names.declared_names S.values) w)) _ _ (λ _. stuck (late s0 (behind_lines (Some S)) Hu (words_at s0 (behind_lines (Some S)) Hu e k, inl tt)))
+          (λ w us u e Hu. reading_if s0 (behind_lines (Some S)) (λ e. e) (names.is_variable S w || is_some (place_of (names.declared_names S.values) w)) _ _ (λ yes. stuck (late s0 (behind_lines (Some S)) Hu (words_at s0 (behind_lines (Some S)) kinds.Taken Hu e k (wrong.taken (name_of S w yes)), inl tt)))
           (λ new. reading_if s0 (behind_lines (Some S)) (λ e. e) (leb 4096 (length S.values)) _ _
           (λ full. let none = new_word S w new in stuck (late s0 (behind_lines (Some S)) Hu (caused s0 (behind_lines (Some S)) kinds.Many Hu (subst (λ vs. AreTooMany S (Word kw ∷ vs)) (sym e) (rank.names declares none.0 none.1 (leb-true 4096 (length S.values) full))))))
           (λ _. read us e Hu)))

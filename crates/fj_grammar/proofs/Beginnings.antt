@@ -50,12 +50,6 @@ abbrev pub BeginsNarrow : List Token → Type 0
 BeginsNarrow [] = Unit {0}
 BeginsNarrow (t ∷ ts) = IsNarrow t
 
-abbrev pub BeginsWithNumber : List Token → Type 0
-BeginsWithNumber us = (n : ℕ) × (vs : List Token) × (us ≡ Number n ∷ vs)
-
-abbrev pub BeginsWithWord : List Token → Type 0
-BeginsWithWord us = (w : List ℕ) × (vs : List Token) × (us ≡ Word w ∷ vs)
-
 sound_blames : (k : FaultKind) (t : Placed) (ts : List Placed) → IsSound t.token → Blames k (t ∷ ts)
 sound_blames k t ts sound e = absurd (subst IsSound e sound)
 
@@ -71,12 +65,16 @@ unexpected_blames t = by t.left
     by (u ∷ us) = λ e. blame_is u.token e
 
 -- What may be said of a line: that there is a ring before it. And of tokens: that they can go on, that they can go on with a
--- token, and what causes a fault of this kind at the last one.
+-- token, what causes a fault of this kind at the last one, and that the token behind them is wrong in this way. Of numbers in
+-- the lines behind the ring's it is known when they are.
 pub record Sayings : Type 1 where
   pub HasRing : Type 0
   pub Goes : List Token → Type 0
   pub Next : List Token → Token → Type 0
   pub Cause : FaultKind → List Token → Type 0
+  pub Wrong : List Token → FaultKind → Token → Type 0
+  pub wide : HasRing → (ts : List Token) (n : ℕ) → 2 ^ 32 ≤ n → Wrong ts kinds.Wide (Number n)
+  pub narrow : HasRing → (ts : List Token) (n : ℕ) → n < 2 ^ 32 → Wrong ts kinds.Range (Number n)
 
 -- A line was read from the state s0 on.
 module _ (s0 : State) where
@@ -145,20 +143,27 @@ module _ (s0 : State) (V : Sayings) where
   abbrev pub Words : List Token → Type 0
   Words ts = (w : List ℕ) × (V.Goes (ts ++ Word w ∷ []) ⊎ V.Next ts (Word w))
 
+  -- A number that is wrong in this way comes next, or such a word.
+  abbrev pub WrongNumber : FaultKind → List Token → List Token → Type 0
+  WrongNumber k ts us = (n : ℕ) × (vs : List Token) × (us ≡ Number n ∷ vs) × V.Wrong ts k (Number n)
+
+  abbrev pub WrongWord : FaultKind → List Token → List Token → Type 0
+  WrongWord k ts us = (w : List ℕ) × (vs : List Token) × (us ≡ Word w ∷ vs) × V.Wrong ts k (Word w)
+
   abbrev pub Caused : FaultKind → List Token → List Token → Type 0
   Caused k ts us = (t : Token) × (vs : List Token) × (us ≡ t ∷ vs) × V.Cause k (ts ++ t ∷ [])
 
   -- What is said of the tokens before a fault of this kind, and of those from its place on: which tokens might stand there, and
   -- what the kinds that are higher have to do with it.
   abbrev pub Fits : FaultKind → List Token → List Token → Type 0
-  Fits kinds.Prime ts us = ((n : ℕ) × V.Next ts (Number n)) × BeginsWithNumber us
-  Fits kinds.Wide ts us = Numbers ts × BeginsWithNumber us
-  Fits kinds.Range ts us = (Numbers ts × BeginsWithNumber us) × BeginsNarrow us
-  Fits kinds.Vars ts us = Words ts × BeginsWithWord us
-  Fits kinds.Taken ts us = (Words ts × BeginsWithWord us) × (V.HasRing ⊎ (length ts ≤ 14))
-  Fits kinds.Unknown ts us = Words ts × BeginsWithWord us
-  Fits kinds.Kind ts us = Words ts × BeginsWithWord us
-  Fits kinds.Constant ts us = Words ts × BeginsWithWord us
+  Fits kinds.Prime ts us = ((n : ℕ) × V.Next ts (Number n)) × WrongNumber kinds.Prime ts us
+  Fits kinds.Wide ts us = Numbers ts × WrongNumber kinds.Wide ts us
+  Fits kinds.Range ts us = (Numbers ts × WrongNumber kinds.Range ts us) × BeginsNarrow us
+  Fits kinds.Vars ts us = Words ts × WrongWord kinds.Vars ts us
+  Fits kinds.Taken ts us = (Words ts × WrongWord kinds.Taken ts us) × (V.HasRing ⊎ (length ts ≤ 14))
+  Fits kinds.Unknown ts us = Words ts × WrongWord kinds.Unknown ts us
+  Fits kinds.Kind ts us = Words ts × WrongWord kinds.Kind ts us
+  Fits kinds.Constant ts us = Words ts × WrongWord kinds.Constant ts us
   Fits kinds.Many ts us = Caused kinds.Many ts us
   Fits kinds.Long ts us = Unit {0}
   Fits kinds.Byte ts us = Unit {0}
@@ -217,18 +222,18 @@ module _ (s0 : State) (V : Sayings) where
   pub number_narrow : (ws : List Token) {us : List Token} {n : ℕ} {u : State} (H : SoFar (ws ++ us) u) → us ≡ Number n ∷ [] → n < 2 ^ 32 → IsNarrow H.reached.last.token
   number_narrow ws {us} {n} H e few = subst IsNarrow (last_is ws us [] (Number n) H e) few
 
-  pub number_first : (ws us front : List Token) (n : ℕ) {u : State} (H : SoFar (ws ++ us) u) → us ≡ front ++ Number n ∷ [] → BeginsWithNumber (H.reached.last.token ∷ toks u.left)
-  number_first ws us front n {u} H e = (n, toks u.left, ap (λ t. t ∷ toks u.left) (sym (last_is ws us front (Number n) H e)))
+  pub number_first : (k : FaultKind) (ws us front : List Token) (n : ℕ) {u : State} (H : SoFar (ws ++ us) u) → us ≡ front ++ Number n ∷ [] → V.Wrong (ws ++ front) k (Number n) → WrongNumber k (toks H.reached.init) (H.reached.last.token ∷ toks u.left)
+  number_first k ws us front n {u} H e wrong = (n, toks u.left, ap (λ t. t ∷ toks u.left) (sym (last_is ws us front (Number n) H e)), subst (λ ts. V.Wrong ts k (Number n)) (init_is ws us front (Number n) H e) wrong)
 
-  pub word_first : (ws us front : List Token) (w : List ℕ) {u : State} (H : SoFar (ws ++ us) u) → us ≡ front ++ Word w ∷ [] → BeginsWithWord (H.reached.last.token ∷ toks u.left)
-  word_first ws us front w {u} H e = (w, toks u.left, ap (λ t. t ∷ toks u.left) (sym (last_is ws us front (Word w) H e)))
+  pub word_first : (k : FaultKind) (ws us front : List Token) (w : List ℕ) {u : State} (H : SoFar (ws ++ us) u) → us ≡ front ++ Word w ∷ [] → V.Wrong (ws ++ front) k (Word w) → WrongWord k (toks H.reached.init) (H.reached.last.token ∷ toks u.left)
+  word_first k ws us front w {u} H e wrong = (w, toks u.left, ap (λ t. t ∷ toks u.left) (sym (last_is ws us front (Word w) H e)), subst (λ ts. V.Wrong ts k (Word w)) (init_is ws us front (Word w) H e) wrong)
 
   -- before a number, and before a word
-  pub numbers_at : {ws us : List Token} {n : ℕ} {u : State} (H : SoFar (ws ++ us) u) → us ≡ Number n ∷ [] → Numbers ws → Numbers (toks H.reached.init) × BeginsWithNumber (H.reached.last.token ∷ toks u.left)
-  numbers_at {ws} {us} {n} {u} H e k = (subst Numbers (sym (append-nil ws) ∙ init_is ws us [] (Number n) H e) k, number_first ws us [] n H e)
+  pub numbers_at : (k : FaultKind) {ws us : List Token} {n : ℕ} {u : State} (H : SoFar (ws ++ us) u) → us ≡ Number n ∷ [] → Numbers ws → V.Wrong ws k (Number n) → Numbers (toks H.reached.init) × WrongNumber k (toks H.reached.init) (H.reached.last.token ∷ toks u.left)
+  numbers_at k {ws} {us} {n} {u} H e may wrong = (subst Numbers (sym (append-nil ws) ∙ init_is ws us [] (Number n) H e) may, number_first k ws us [] n H e (subst (λ ts. V.Wrong ts k (Number n)) (sym (append-nil ws)) wrong))
 
-  pub words_at : {ws us : List Token} {w : List ℕ} {u : State} (H : SoFar (ws ++ us) u) → us ≡ Word w ∷ [] → Words ws → Words (toks H.reached.init) × BeginsWithWord (H.reached.last.token ∷ toks u.left)
-  words_at {ws} {us} {w} {u} H e k = (subst Words (sym (append-nil ws) ∙ init_is ws us [] (Word w) H e) k, word_first ws us [] w H e)
+  pub words_at : (k : FaultKind) {ws us : List Token} {w : List ℕ} {u : State} (H : SoFar (ws ++ us) u) → us ≡ Word w ∷ [] → Words ws → V.Wrong ws k (Word w) → Words (toks H.reached.init) × WrongWord k (toks H.reached.init) (H.reached.last.token ∷ toks u.left)
+  words_at k {ws} {us} {w} {u} H e may wrong = (subst Words (sym (append-nil ws) ∙ init_is ws us [] (Word w) H e) may, word_first k ws us [] w H e (subst (λ ts. V.Wrong ts k (Word w)) (sym (append-nil ws)) wrong))
 
   pub caused : (k : FaultKind) {ts : List Token} {t : State} (H : SoFar ts t) → V.Cause k ts → Caused k (toks H.reached.init) (H.reached.last.token ∷ toks t.left)
   caused k {ts} {t} H cause = (H.reached.last.token, toks t.left, refl, subst (V.Cause k) H.reached.tokens cause)

@@ -359,15 +359,16 @@ module _ (S : Session) (H : IsSane S) where
 
 -- ---- the ring
 
-prime_read : (s : State) (p : ℕ) (rest : List Token) → Contains primes p → tokens_left s ≡ Number p ∷ rest → IsRead (rings.prime s) p rest
-unfolding rings.prime rings.is_prime
-prime_read s p rest known e =
-    let here : (p == get_or primes known.0 p) ≡ true = ap (λ q. p == q) known.2 ∙ same p in
-    let found = list_any_at (λ q. p == q) primes known.0 p known.1 here in
-    then_read _ (number_read s p rest e) (λ t k. record { state = t; is = ap (λ b. cond b (Ok (p, t)) (Err (fault_at faults.Prime t))) found; left = k })
+pub prime_tested : (p : ℕ) → Contains primes p → rings.is_prime p ≡ true
+unfolding rings.is_prime
+prime_tested p known = let here : (p == get_or primes known.0 p) ≡ true = ap (λ q. p == q) known.2 ∙ same p in list_any_at (λ q. p == q) primes known.0 p known.1 here
   where
     same : (n : ℕ) → (n == n) ≡ true
     same n = search rules
+
+prime_read : (s : State) (p : ℕ) (rest : List Token) → Contains primes p → tokens_left s ≡ Number p ∷ rest → IsRead (rings.prime s) p rest
+unfolding rings.prime
+prime_read s p rest known e = then_read _ (number_read s p rest e) (λ t k. record { state = t; is = ap (λ b. cond b (Ok (p, t)) (Err (fault_at faults.Prime t))) (prime_tested p known); left = k })
 
 variable_read : (vs : List (List ℕ)) → length vs ≤ 7 → AllPairs (λ v w. v ≢ w) vs → (ys : List (List ℕ)) (x : List ℕ) (zs : List (List ℕ)) → vs ≡ ys ++ x ∷ zs
     → (ts rest : List Token) (s : State) → IsVariable ts x → AreBehind rest → tokens_left s ≡ ts ++ rest → IsRead (rings.variable ys s) x rest

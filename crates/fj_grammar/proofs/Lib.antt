@@ -9,6 +9,7 @@ pub mod Rising
 pub mod FirstFault
 pub mod FineValues
 pub mod ExpressionEnds
+pub mod NamesOf
 pub mod Beginnings
 pub mod BeginningExpressions
 pub mod Continuations

@@ -20,6 +20,7 @@ use Rattle.fj_grammar.specs.Grammar.{AreListed, HasTerms, IsRing, IsSession, IsS
 use Rattle.fj_grammar.specs.Large.{HasLarge}
 use Rattle.fj_grammar.specs.Rank as rank
 use Rattle.fj_grammar.specs.Rank.{AreTooMany, HasCause, HaveWrongArity, IsOfNumber, IsOfWord, KindIsHighest, StandsAt, lines_to, tokens_to}
+use Rattle.fj_grammar.specs.Wrong.{IsWrong}
 use Rattle.fj_grammar.proofs.BeginningLines.{Causes, MayFollow, MayStand, behind_lines}
 use Rattle.fj_grammar.proofs.BeginningSessions.{before_is, made_before, stuck_at}
 use Rattle.fj_grammar.proofs.Beginnings as Said
@@ -73,26 +74,32 @@ module _ (s0 : State) (before : Option Session) (ts us : List Token) (k : FaultK
   abbrev As : FaultKind → Type 0
   As k = Said.Fits s0 (behind_lines before) k ts us
 
-  number_follows : IsOfNumber k → ((n : ℕ) × MayFollow before ts (Number n)) × Said.BeginsWithNumber us
+  number_follows : IsOfNumber k → ((n : ℕ) × MayFollow before ts (Number n)) × Said.WrongNumber s0 (behind_lines before) k ts us
   number_follows is = by is
     where
       told : Said.Numbers s0 (behind_lines before) ts → (n : ℕ) × MayFollow before ts (Number n)
       told (ring, n, x) = (n, either_follows before ts (Number n) (λ b e. absurd cc) x)
 
-      by : IsOfNumber k → ((n : ℕ) × MayFollow before ts (Number n)) × Said.BeginsWithNumber us
-      by (inl e) = subst As e h
-      by (inr (inl e)) = let x = subst As e h in (told x.0, x.1)
-      by (inr (inr e)) = let x = subst As e h in (told x.0.0, x.0.1)
+      is_so : {j : FaultKind} → k ≡ j → Said.WrongNumber s0 (behind_lines before) j ts us → Said.WrongNumber s0 (behind_lines before) k ts us
+      is_so e x = subst (λ k. Said.WrongNumber s0 (behind_lines before) k ts us) (sym e) x
 
-  word_follows : IsOfWord k → ((w : List ℕ) × MayFollow before ts (Word w)) × Said.BeginsWithWord us
+      by : IsOfNumber k → ((n : ℕ) × MayFollow before ts (Number n)) × Said.WrongNumber s0 (behind_lines before) k ts us
+      by (inl e) = let x = subst As e h in (x.0, is_so e x.1)
+      by (inr (inl e)) = let x = subst As e h in (told x.0, is_so e x.1)
+      by (inr (inr e)) = let x = subst As e h in (told x.0.0, is_so e x.0.1)
+
+  word_follows : IsOfWord k → ((w : List ℕ) × MayFollow before ts (Word w)) × Said.WrongWord s0 (behind_lines before) k ts us
   word_follows is = let x = by is in ((x.0.0, either_follows before ts (Word x.0.0) (λ b e. absurd cc) x.0.1), x.1)
     where
-      by : IsOfWord k → Said.Words s0 (behind_lines before) ts × Said.BeginsWithWord us
-      by (inl e) = subst As e h
-      by (inr (inl e)) = let x = subst As e h in x.0
-      by (inr (inr (inl e))) = subst As e h
-      by (inr (inr (inr (inl e)))) = subst As e h
-      by (inr (inr (inr (inr e)))) = subst As e h
+      is_so : {j : FaultKind} → k ≡ j → Said.Words s0 (behind_lines before) ts × Said.WrongWord s0 (behind_lines before) j ts us → Said.Words s0 (behind_lines before) ts × Said.WrongWord s0 (behind_lines before) k ts us
+      is_so e x = subst (λ k. Said.Words s0 (behind_lines before) ts × Said.WrongWord s0 (behind_lines before) k ts us) (sym e) x
+
+      by : IsOfWord k → Said.Words s0 (behind_lines before) ts × Said.WrongWord s0 (behind_lines before) k ts us
+      by (inl e) = is_so e (subst As e h)
+      by (inr (inl e)) = let x = subst As e h in is_so e x.0
+      by (inr (inr (inl e))) = is_so e (subst As e h)
+      by (inr (inr (inr (inl e)))) = is_so e (subst As e h)
+      by (inr (inr (inr (inr e)))) = is_so e (subst As e h)
 
 cause_of : (Is : Session → List Token → Type 0) (k : FaultKind) → ((S : Session) (ts : List Token) → Causes (Some S) k ts → Is S ts)
     → (ls : List (List Token)) (before : Option Session) (ts : List Token) → MakeSession ls before → Causes before k ts → (S : Session) × IsSession ls S × Is S ts
@@ -122,8 +129,8 @@ many_narrow (rank.generator_terms {name} {ts = us} new l few many) n ts e = narr
 pub kind_highest : KindIsHighest
 kind_highest bytes place H e = record {
   byte_over_others = λ stands. bad_there stands K.rest K.all K.at K.blames;
-  syntax_over_number = λ is. let x = number_follows s0 w.session (toks K.before) (toks K.rest) place.kind fits is in let at = x.1 in (at.0, x.0.0, first_stands (Number at.0) at.1 at.2 K.rest K.all K.at refl, (w.session, made, subst (λ ts. MayFollow w.session ts (Number x.0.0)) (sym before_it) x.0.1));
-  syntax_over_word = λ is. let x = word_follows s0 w.session (toks K.before) (toks K.rest) place.kind fits is in let at = x.1 in (at.0, x.0.0, first_stands (Word at.0) at.1 at.2 K.rest K.all K.at refl, (w.session, made, subst (λ ts. MayFollow w.session ts (Word x.0.0)) (sym before_it) x.0.1));
+  syntax_over_number = λ is. let x = number_follows s0 w.session (toks K.before) (toks K.rest) place.kind fits is in let at = x.1 in (at.0, x.0.0, (first_stands (Number at.0) at.1 at.2 K.rest K.all K.at refl, w.session, made, subst (λ ts. IsWrong w.session ts place.kind (Number at.0)) (sym before_it) at.3, subst (λ ts. MayFollow w.session ts (Number x.0.0)) (sym before_it) x.0.1));
+  syntax_over_word = λ is. let x = word_follows s0 w.session (toks K.before) (toks K.rest) place.kind fits is in let at = x.1 in (at.0, x.0.0, (first_stands (Word at.0) at.1 at.2 K.rest K.all K.at refl, w.session, made, subst (λ ts. IsWrong w.session ts place.kind (Word at.0)) (sym before_it) at.3, subst (λ ts. MayFollow w.session ts (Word x.0.0)) (sym before_it) x.0.1));
   syntax_over_large = λ is. let x = fit kinds.Large is in cause_there HasLarge kinds.Large (λ S ts h. h) x.1;
   syntax_over_arity = λ is. cause_there HaveWrongArity kinds.Arity (λ S ts h. h) (fit kinds.Arity is);
   prime_over_wide = λ is ring. let x = fit kinds.Wide is in ring_first w.session l w.found ring.0 (ap tokens_of (sym line_same) ∙ ring.1) w.wrong (λ syntax. absurd (let same = sym is ∙ sym kind_same ∙ syntax in cc)) x.0.0;

@@ -1,16 +1,18 @@
--- The rank of kinds at the place of a fault: of each two that could stand at one place, the higher one is told.
+-- The rank of kinds at the place of a fault: of each two that could stand at one place, the higher one is told. And its kind has
+-- its cause.
 use Rattle.std.specs.Prelude.{◌≡◌, ◌≢◌, ℕ, zero, ◌+◌, ◌-◌, ◌^◌, ◌<◌, ◌≤◌, ◌⊎◌, List, [], ◌∷◌, ◌++◌, length, map, take, All, Contains, Option, Err, codes}
 use Rattle.fj_text.specs.Token.{Token, Word, Number, Sign, BadByte, Placed, opening, closing, tokens_from}
 use Rattle.fj_script.specs.declared.fault.Fault.{Fault}
 use Rattle.fj_script.specs.declared.fault.FaultKind.{FaultKind}
 use Rattle.fj_script.specs.declared.fault.FaultKind.TheVariants as kinds
+use Rattle.fj_script.specs.Items.{comma, equals}
+use Rattle.fj_script.specs.Script.{lines, script}
+use Rattle.fj_script.specs.Session.{Session, Terms, terms_in}
 use Rattle.fj_grammar.specs.Beginning.{CanGoOnWith, IsDoomed, MakeSession}
 use Rattle.fj_grammar.specs.FirstFault.{HasStatements, line_at, tokens_before}
 use Rattle.fj_grammar.specs.Grammar.{AreListed, HasTerms, IsCoordinate, IsNew, IsSession, tokens_of}
 use Rattle.fj_grammar.specs.Large.{HasLarge}
-use Rattle.fj_script.specs.Items.{comma, equals}
-use Rattle.fj_script.specs.Script.{lines, script}
-use Rattle.fj_script.specs.Session.{Session, Terms, terms_in}
+use Rattle.fj_grammar.specs.Wrong.{IsWrong}
 
 -- This token stands at a place.
 abbrev pub StandsAt : Fault → List ℕ → Token → Type 0
@@ -27,10 +29,12 @@ tokens_to place bytes = map (λ t. t.token) (tokens_before place.column (line_at
 abbrev pub lines_to : Fault → List ℕ → List (List Token)
 lines_to place bytes = map tokens_of (take (place.line - 1) (lines bytes))
 
--- A statement may have this token at a place: the tokens before it can go on with it, or they are one of the two beginnings
--- that can't go on at all.
-abbrev pub MayStandAt : Fault → List ℕ → Token → Type 0
-MayStandAt place bytes t = (before : Option Session) × MakeSession (lines_to place bytes) before × (CanGoOnWith before (tokens_to place bytes) t ⊎ IsDoomed (tokens_to place bytes))
+-- The first token stands at a place, and behind the session that the lines before make it is wrong in the way that is told. A
+-- statement may have the second one there: the tokens before go on with it, or are one of the two beginnings that can't go on.
+abbrev pub IsAt : Fault → List ℕ → Token → Token → Type 0
+IsAt place bytes t u =
+    StandsAt place bytes t
+    × (before : Option Session) × MakeSession (lines_to place bytes) before × IsWrong before (tokens_to place bytes) place.kind t × (CanGoOnWith before (tokens_to place bytes) u ⊎ IsDoomed (tokens_to place bytes))
 
 -- The kinds that are told at a number, and those that are told at a word.
 abbrev pub IsOfNumber : FaultKind → Type 0
@@ -63,18 +67,12 @@ pub data HaveWrongArity (S : Session) : List Token → Type 0 where
 abbrev pub HasCause : (Session → List Token → Type 0) → Fault → List ℕ → Type 0
 HasCause Is place bytes = (t : Token) × StandsAt place bytes t × (S : Session) × IsSession (lines_to place bytes) S × Is S (tokens_to place bytes ++ t ∷ [])
 
--- A number stands at the place and a number may stand there; the same of words.
-abbrev pub IsAtNumber : Fault → List ℕ → Type 0
-IsAtNumber place bytes = (n m : ℕ) × StandsAt place bytes (Number n) × MayStandAt place bytes (Number m)
-
-abbrev pub IsAtWord : Fault → List ℕ → Type 0
-IsAtWord place bytes = (v w : List ℕ) × StandsAt place bytes (Word v) × MayStandAt place bytes (Word w)
-
 -- Of two kinds that could stand at one place the lower one is told only where the higher one doesn't stand.
 pub record IsHighest (bytes : List ℕ) (place : Fault) : Type 0 where
   pub byte_over_others : StandsAt place bytes BadByte → place.kind ≡ kinds.Byte
-  pub syntax_over_number : IsOfNumber place.kind → IsAtNumber place bytes
-  pub syntax_over_word : IsOfWord place.kind → IsAtWord place bytes
+  -- a wrong number stands where a number may stand, and a wrong word where a word may
+  pub syntax_over_number : IsOfNumber place.kind → (n m : ℕ) × IsAt place bytes (Number n) (Number m)
+  pub syntax_over_word : IsOfWord place.kind → (v w : List ℕ) × IsAt place bytes (Word v) (Word w)
   -- where something is too large, or the number of coordinates is wrong, the text up to it is as in the grammar
   pub syntax_over_large : place.kind ≡ kinds.Large → HasCause HasLarge place bytes
   pub syntax_over_arity : place.kind ≡ kinds.Arity → HasCause HaveWrongArity place bytes
