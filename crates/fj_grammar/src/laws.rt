@@ -37,7 +37,8 @@ pub fn beginning_is_legal()
 
 /// Of the kinds that could stand at the place of a fault the highest is told: Byte over all others at a bad byte; Syntax over
 /// the kinds of a number or a word, where no number or word may stand, and over Large and Arity; Prime over Wide; Vars over
-/// Taken; Taken and Large over Many; Wide over Large, Range and Many.
+/// Taken; Taken and Large over Many; Wide over Large, Range and Many. And a number or a word is wrong in the way that is told;
+/// Large, Arity and Many have their cause in the text up to the place.
 pub fn kind_is_highest()
     ensures { KindIsHighest }
 {}
