@@ -7,7 +7,7 @@ use Rattle.std.proofs.lemmas.List.{append-nil}
 use Rattle.fj_coeff.specs.Field.{primes}
 use Rattle.fj_text.specs.State.{State}
 use Rattle.fj_text.specs.Token.{Token, Word, Number, Sign, BadByte}
-use Rattle.fj_grammar.specs.Beginning.{CanGoOn, CanGoOnWith, IsDoomed}
+use Rattle.fj_grammar.specs.Beginning.{CanGoOn, CanGoOnWith, IsDoomed, IsDoomedWith}
 use Rattle.fj_script.specs.declared.fault.FaultKind.{FaultKind}
 use Rattle.fj_script.specs.declared.fault.FaultKind.TheVariants as kinds
 use Rattle.fj_script.specs.declared.question.Question.{Question}
@@ -36,7 +36,7 @@ abbrev pub MayStand : Option Session → List Token → Type 0
 MayStand before ts = CanGoOn before ts ⊎ IsDoomed ts
 
 abbrev pub MayFollow : Option Session → List Token → Token → Type 0
-MayFollow before ts t = CanGoOnWith before ts t ⊎ IsDoomed ts
+MayFollow before ts t = CanGoOnWith before ts t ⊎ IsDoomedWith ts t
 
 abbrev pub Causes : Option Session → FaultKind → List Token → Type 0
 Causes None k ts = ⊥

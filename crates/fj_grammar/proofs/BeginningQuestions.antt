@@ -144,8 +144,8 @@ module _ (s0 : State) (S : Session) (known : Contains primes S.prime) where
 
       slashed : (which : TestIdeal) (w : List ℕ) (f : ℕ) → NamesNonconstant S w f → (m : ℕ) → m < 2 ^ 32 → Slashed which w m
       slashed tests.Test w f h zero fits = zero_over tests.Test refl w f h
-      slashed tests.Left w f h zero fits = (inr beginning.left, (tt, 1, inr (inr beginning.left)))
-      slashed tests.IsJump w f h zero fits = (inr beginning.isjump, (tt, 1, inr (inr beginning.isjump)))
+      slashed tests.Left w f h zero fits = (inr beginning.left, (tt, 1, inr (inr beginning.left_over)))
+      slashed tests.IsJump w f h zero fits = (inr beginning.isjump, (tt, 1, inr (inr beginning.isjump_over)))
       slashed tests.Regular w f h zero fits = zero_over tests.Regular refl w f h
       slashed which w f h (suc m) fits = one_over which w f h (suc m) fits (omega arith)
 

@@ -10,7 +10,7 @@ use Rattle.fj_text.specs.Grammar.{tokens_left}
 use Rattle.fj_text.specs.State.{State, after, end_of, next}
 use Rattle.fj_text.specs.Token.{Token, Word, Number, Sign, BadByte, Placed, tokens_from}
 use Rattle.fj_text.specs.Word.{place_of}
-use Rattle.fj_grammar.specs.Beginning.{BeginningIsLegal, CanGoOn, CanGoOnWith, IsDoomed, MakeSession}
+use Rattle.fj_grammar.specs.Beginning.{BeginningIsLegal, CanGoOn, CanGoOnWith, IsDoomedWith, MakeSession}
 use Rattle.fj_grammar.specs.Beginning as beginning
 use Rattle.fj_script.specs.declared.fault.FaultKind.TheVariants as kinds
 use Rattle.fj_script.specs.declared.fault.LineFault.{LineFault}
@@ -86,8 +86,8 @@ module _ (s0 : State) where
         subst (λ ws. IsRing (Word (codes "ring") ∷ Number p ∷ ws) (new_session p (vs ++ other_word vs ∷ []))) (sym (append_assoc us (Sign comma ∷ []) (Word (other_word vs) ∷ []))) (grammar.ring known all.0 all.1 all.2),
       )
 
-  eighth : {p : ℕ} {vs : List (List ℕ)} {us : List Token} → Variables vs us → 7 ≤ length vs → IsDoomed (Word (codes "ring") ∷ Number p ∷ (us ++ Sign comma ∷ []))
-  eighth l many = beginning.ring l.0 (omega (arith, many, l.1))
+  seven : {vs : List (List ℕ)} {us : List Token} → Variables vs us → 7 ≤ length vs → length vs ≡ 7
+  seven l many = omega (arith, many, l.1)
 
   ring_comma : (p : ℕ) (vs : List (List ℕ)) (us : List Token) → Contains primes p → Variables vs us → MayStand None (Word (codes "ring") ∷ Number p ∷ (us ++ Sign comma ∷ []))
   ring_comma p vs us known l = ⊎_elim less full (cases_lt (length vs) 7)
@@ -96,7 +96,7 @@ module _ (s0 : State) where
       less few = let x = variable_next p vs us known l few in inl (Word (other_word vs) ∷ x.0, x.1, x.2)
 
       full : 7 ≤ length vs → MayStand None (Word (codes "ring") ∷ Number p ∷ (us ++ Sign comma ∷ []))
-      full many = inr (eighth l many)
+      full many = inr (beginning.ring l.0 (seven l many))
 
   ring_with_prime : CanGoOnWith None (Word (codes "ring") ∷ []) (Number 2)
   ring_with_prime = (Word (other_word []) ∷ [], _, grammar.ring some_prime (one_variable (other_word [])).0 (one_variable (other_word [])).1 (one_variable (other_word [])).2)
@@ -125,7 +125,7 @@ module _ (s0 : State) where
         then_reading s0 (behind_lines None) (λ e. e) _
         (behind s0 (behind_lines None) (λ e. e) {Q = λ w ws. ws ≡ Word w ∷ []} {R = λ w ws. ws ≡ us ++ Sign comma ∷ Word w ∷ []} (Word (codes "ring") ∷ Number p ∷ []) (us ++ Sign comma ∷ []) _
         (word_reading s0 (behind_lines None) (Word (codes "ring") ∷ Number p ∷ (us ++ Sign comma ∷ [])) t H.reached (ring_comma p vs us known l)) (λ w ws e. ap (λ xs. (us ++ Sign comma ∷ []) ++ xs) e ∙ append_assoc us (Sign comma ∷ []) (Word w ∷ [])))
-        (λ w ws u e Hu. reading_if s0 (behind_lines None) (λ e. e) (leb 7 (length vs)) _ _ (λ many. let doomed = eighth l (leb-true 7 (length vs) many) in stuck (late s0 (behind_lines None) Hu (subst (Words s0 (behind_lines None)) (before_word ws w e Hu) (w, inr (inr doomed)), variable_there kinds.Vars ws w e Hu (wrong.eighth doomed))))
+        (λ w ws u e Hu. reading_if s0 (behind_lines None) (λ e. e) (leb 7 (length vs)) _ _ (λ many. let doomed : IsDoomedWith (Word (codes "ring") ∷ Number p ∷ (us ++ Sign comma ∷ [])) (Word w) = beginning.eighth l.0 (seven l (leb-true 7 (length vs) many)) in stuck (late s0 (behind_lines None) Hu (subst (Words s0 (behind_lines None)) (before_word ws w e Hu) (w, inr (inr doomed)), variable_there kinds.Vars ws w e Hu (wrong.eighth doomed))))
         (λ few. reading_if s0 (behind_lines None) (λ e. e) (is_some (place_of vs w)) _ _ (λ yes. stuck (late s0 (behind_lines None) Hu (taken_early ws w e Hu (leb-false 7 (length vs) few) (found_among vs w yes))))
         (λ new. read ws (subst (Variables (vs ++ w ∷ [])) (sym e) (variables_more vs us w l (leb-false 7 (length vs) few) (λ i d inside. unlike w vs (nothing_found _ new) i d inside))) Hu)))
       where

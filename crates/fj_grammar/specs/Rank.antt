@@ -8,7 +8,7 @@ use Rattle.fj_script.specs.declared.fault.FaultKind.TheVariants as kinds
 use Rattle.fj_script.specs.Items.{comma, equals}
 use Rattle.fj_script.specs.Script.{lines, script}
 use Rattle.fj_script.specs.Session.{Session, Terms, terms_in}
-use Rattle.fj_grammar.specs.Beginning.{CanGoOnWith, IsDoomed, MakeSession}
+use Rattle.fj_grammar.specs.Beginning.{CanGoOnWith, IsDoomedWith, MakeSession}
 use Rattle.fj_grammar.specs.FirstFault.{HasStatements, line_at, tokens_before}
 use Rattle.fj_grammar.specs.Grammar.{AreListed, HasTerms, IsCoordinate, IsNew, IsSession, tokens_of}
 use Rattle.fj_grammar.specs.Large.{HasLarge}
@@ -30,11 +30,11 @@ abbrev pub lines_to : Fault → List ℕ → List (List Token)
 lines_to place bytes = map tokens_of (take (place.line - 1) (lines bytes))
 
 -- The first token stands at a place, and behind the session that the lines before make it is wrong in the way that is told. A
--- statement may have the second one there: the tokens before go on with it, or are one of the two beginnings that can't go on.
+-- statement may have the second one there: the tokens before go on with it, or it comes behind one of the two beginnings that can't.
 abbrev pub IsAt : Fault → List ℕ → Token → Token → Type 0
 IsAt place bytes t u =
     StandsAt place bytes t
-    × (before : Option Session) × MakeSession (lines_to place bytes) before × IsWrong before (tokens_to place bytes) place.kind t × (CanGoOnWith before (tokens_to place bytes) u ⊎ IsDoomed (tokens_to place bytes))
+    × (before : Option Session) × MakeSession (lines_to place bytes) before × IsWrong before (tokens_to place bytes) place.kind t × (CanGoOnWith before (tokens_to place bytes) u ⊎ IsDoomedWith (tokens_to place bytes) u)
 
 -- The kinds that are told at a number, and those that are told at a word.
 abbrev pub IsOfNumber : FaultKind → Type 0

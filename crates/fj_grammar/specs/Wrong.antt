@@ -5,7 +5,7 @@ use Rattle.fj_text.specs.Token.{Token, Word, Number}
 use Rattle.fj_script.specs.declared.fault.FaultKind.{FaultKind}
 use Rattle.fj_script.specs.declared.fault.FaultKind.TheVariants as kinds
 use Rattle.fj_script.specs.Session.{Session, Terms, Value, Poly, is_nonconstant}
-use Rattle.fj_grammar.specs.Beginning.{IsDoomed}
+use Rattle.fj_grammar.specs.Beginning.{IsDoomedWith}
 
 -- A variable of the ring, or a declared name.
 abbrev pub IsNameIn : Session → List ℕ → Type 0
@@ -15,7 +15,7 @@ IsNameIn S w = Contains S.variables w ⊎ ((v : Value) × Contains S.values (w, 
 -- of a line behind this session.
 pub data IsWrong : Option Session → List Token → FaultKind → Token → Type 0 where
   no_prime : {ts : List Token} {n : ℕ} → (Contains primes n → ⊥) → IsWrong None ts kinds.Prime (Number n)
-  eighth : {ts : List Token} {w : List ℕ} → IsDoomed ts → IsWrong None ts kinds.Vars (Word w)
+  eighth : {ts : List Token} {w : List ℕ} → IsDoomedWith ts (Word w) → IsWrong None ts kinds.Vars (Word w)
   again : {ts : List Token} {w : List ℕ} → Contains (drop 1 ts) (Word w) → IsWrong None ts kinds.Taken (Word w)
   taken : {S : Session} {ts : List Token} {w : List ℕ} → IsNameIn S w → IsWrong (Some S) ts kinds.Taken (Word w)
   unknown : {S : Session} {ts : List Token} {w : List ℕ} → (IsNameIn S w → ⊥) → IsWrong (Some S) ts kinds.Unknown (Word w)
