@@ -1,11 +1,10 @@
 -- A session of the grammar is accepted.
-use Rattle.std.proofs.Common.{◌≡◌, ◌≢◌, ℕ, suc, ◌+◌, ◌-◌, ◌%◌, ◌^◌, ◌<◌, ◌≤◌, ◌==◌, Bool, true, false, cond, ◌||◌, ◌&&◌, eqb, leb, ltb, List, [], ◌∷◌, ◌++◌, length, map, get_or, sum, codes, All, AllPairs, Contains, Option, Some, None, Ok, Err, refl, sym, ap, ◌∙◌, subst, arith, rules, add-zero, inl, inr}
+use Rattle.std.proofs.Common.{◌≡◌, ◌≢◌, ℕ, suc, ◌+◌, ◌-◌, ◌%◌, ◌^◌, ◌<◌, ◌≤◌, Bool, true, false, cond, ◌||◌, ◌&&◌, eqb, leb, ltb, List, [], ◌∷◌, ◌++◌, length, map, get_or, sum, codes, All, AllPairs, Contains, Option, Some, None, Ok, Err, refl, sym, ap, ◌∙◌, subst, arith, add-zero, inl, inr}
 use Rattle.std.specs.List.{slice_get}
 use Rattle.std.specs.Option.{is_some, option_and_then, option_map, option_map_or}
 use Rattle.std.specs.Str.{bytes_eq}
 use Rattle.std.proofs.lemmas.Bool.{cases_lt, false_from_ne_true, le-ltb, lt-leb, ne_eqb}
 use Rattle.std.proofs.lemmas.List.{append-nil, get_or-append-add, get_or-map, get_or_append_left, length-append, map-append}
-use Rattle.std.proofs.lemmas.List.Folds.{list_any_at}
 use Rattle.std.proofs.lemmas.List.Sums.{sum_by-append, sum_by-cons}
 use Rattle.std.proofs.lemmas.Option.{get_or_from_slice_get, slice_get-map, slice_get_within}
 use Rattle.std.proofs.lemmas.Slice.Eq.{bytes_eq-Decides}
@@ -50,6 +49,7 @@ use Rattle.fj_script.specs.Statement as statements
 use Rattle.fj_grammar.proofs.GrammarSound.{ask_word, keyword_word, line_tokens}
 use Rattle.fj_grammar.proofs.GrammarTokens.{IsRead, behind_closing, done, enclosed_read, end_is, listed_read, narrow_read, next_read, no_next, number_read, otherwise_read, sign_is, then_is, then_read, word_read}
 use Rattle.fj_grammar.proofs.Meanings.{expression_along, in_session}
+use Rattle.fj_script.proofs.Primes.{same_test}
 use Rattle.fj_script.proofs.NewNames.{pairs_more}
 use Rattle.fj_script.proofs.Ratios.{of_taken}
 
@@ -360,11 +360,7 @@ module _ (S : Session) (H : IsSane S) where
 -- ---- the ring
 
 pub prime_tested : (p : ℕ) → Contains primes p → rings.is_prime p ≡ true
-unfolding rings.is_prime
-prime_tested p known = let here : (p == get_or primes known.0 p) ≡ true = ap (λ q. p == q) known.2 ∙ same p in list_any_at (λ q. p == q) primes known.0 p known.1 here
-  where
-    same : (n : ℕ) → (n == n) ≡ true
-    same n = search rules
+prime_tested p known = sym (same_test true p (λ yes. known, λ listed. refl))
 
 prime_read : (s : State) (p : ℕ) (rest : List Token) → Contains primes p → tokens_left s ≡ Number p ∷ rest → IsRead (rings.prime s) p rest
 unfolding rings.prime
