@@ -2,7 +2,7 @@
 use Rattle.std.proofs.Common.{◌≡◌, List, [], ◌∷◌, sym, ◌∙◌}
 use Rattle.std.proofs.lemmas.List.Elements.{All-nil, All-cons, All-head, All-tail, All-map, All-weaker}
 use Rattle.fj_algebra.specs.Ring.{CommutativeRing}
-use Rattle.fj_algebra.specs.Ideal.{Member, Inside, Equal, multiples}
+use Rattle.fj_algebra.specs.Ideal.{Member, Inside, SameIdeal, multiples}
 use Rattle.fj_algebra.specs.Colon.{Meet, InColon, Colon}
 use Rattle.fj_algebra.proofs.Lists.{All-map_back}
 use Rattle.fj_algebra.proofs.Ring.{mul_comm}
@@ -13,14 +13,14 @@ module _ {A : Type 0} {R : CommutativeRing A} where
 
   infixl 60 ◌⊕◌
   infixl 70 ◌⊗◌
-  pub Meet-unique : {L M N N' : List A} → Meet R L M N → Meet R L M N' → Equal R N N'
+  pub Meet-unique : {L M N N' : List A} → Meet R L M N → Meet R L M N' → SameIdeal R N N'
   Meet-unique X Y = record {
     forth = Inside-from (λ h H. Y.both h (X.left h H) (X.right h H));
     back = Inside-from (λ h H. X.both h (Y.left h H) (Y.right h H));
   }
 
-  pub Meet-Equal : {L L' M M' N N' : List A} → Equal R L L' → Equal R M M' → Equal R N N' → Meet R L M N → Meet R L' M' N'
-  Meet-Equal E F G X = record {
+  pub Meet-SameIdeal : {L L' M M' N N' : List A} → SameIdeal R L L' → SameIdeal R M M' → SameIdeal R N N' → Meet R L M N → Meet R L' M' N'
+  Meet-SameIdeal E F G X = record {
     left = λ h H. Member-Inside E.forth (X.left h (Member-Inside G.back H));
     right = λ h H. Member-Inside F.forth (X.right h (Member-Inside G.back H));
     both = λ h H K. Member-Inside G.forth (X.both h (Member-Inside E.back H) (Member-Inside F.back K));
@@ -43,19 +43,19 @@ module _ {A : Type 0} {R : CommutativeRing A} where
   pub InColon-Member : {L M : List A} {h : A} → Member R L h → InColon R L M h
   InColon-Member {h} H = InColon-from (λ g G. Member-same (mul_comm R h g) (Member-mul g H))
 
-  pub InColon-Equal : {L L' M M' : List A} {h : A} → Equal R L L' → Equal R M M' → InColon R L M h → InColon R L' M' h
-  InColon-Equal E F X = InColon-from (λ g G. Member-Inside E.forth (Member-InColon X (Member-Inside F.back G)))
+  pub InColon-SameIdeal : {L L' M M' : List A} {h : A} → SameIdeal R L L' → SameIdeal R M M' → InColon R L M h → InColon R L' M' h
+  InColon-SameIdeal E F X = InColon-from (λ g G. Member-Inside E.forth (Member-InColon X (Member-Inside F.back G)))
 
-  pub Colon-unique : {L M N N' : List A} → Colon R L M N → Colon R L M N' → Equal R N N'
+  pub Colon-unique : {L M N N' : List A} → Colon R L M N → Colon R L M N' → SameIdeal R N N'
   Colon-unique X Y = record {
     forth = Inside-from (λ h H. Y.complete h (X.sound h H));
     back = Inside-from (λ h H. X.complete h (Y.sound h H));
   }
 
-  pub Colon-Equal : {L L' M M' N N' : List A} → Equal R L L' → Equal R M M' → Equal R N N' → Colon R L M N → Colon R L' M' N'
-  Colon-Equal E F G X = record {
-    sound = λ h H. InColon-Equal E F (X.sound h (Member-Inside G.back H));
-    complete = λ h H. Member-Inside G.forth (X.complete h (InColon-Equal (record { forth = E.back; back = E.forth }) (record { forth = F.back; back = F.forth }) H));
+  pub Colon-SameIdeal : {L L' M M' N N' : List A} → SameIdeal R L L' → SameIdeal R M M' → SameIdeal R N N' → Colon R L M N → Colon R L' M' N'
+  Colon-SameIdeal E F G X = record {
+    sound = λ h H. InColon-SameIdeal E F (X.sound h (Member-Inside G.back H));
+    complete = λ h H. Member-Inside G.forth (X.complete h (InColon-SameIdeal (record { forth = E.back; back = E.forth }) (record { forth = F.back; back = F.forth }) H));
   }
 
   -- (L) is inside (L) : (M).

@@ -5,10 +5,10 @@ use Rattle.std.proofs.Math.Nat.{pow-zero, pow-suc}
 use Rattle.std.proofs.lemmas.List.Elements.{All-contains, All-from_recursion}
 use Rattle.fj_algebra.specs.Ring.{CommutativeRing}
 use Rattle.fj_algebra.specs.Power.{power, multiple}
-use Rattle.fj_algebra.specs.Ideal.{Member, Inside, Equal, multiples, products}
+use Rattle.fj_algebra.specs.Ideal.{Member, Inside, SameIdeal, multiples, products}
 use Rattle.fj_algebra.specs.Frobenius.{HasCharacteristic, table_primes, IsTablePrime, IsFrobenius, frobenius_power}
 use Rattle.fj_algebra.proofs.Ring.{RingMap-identity, RingMap-compose, RingMap-same, zero_add, add_zero, mul_zero, add_cancel_left, zero_mul, ring_laws}
-use Rattle.fj_algebra.proofs.Ideal.{Member-RingMap, Inside-RingMap, Equal-RingMap}
+use Rattle.fj_algebra.proofs.Ideal.{Member-RingMap, Inside-RingMap, SameIdeal-RingMap}
 use Rattle.fj_algebra.proofs.Power.{power-zero, power-suc, power-1, power-mul, power-power, power-one, multiple-zero, multiple-1, multiple-add, multiple-multiple, multiple-mul, multiple_by_one}
 
 -- The row of Pascal's triangle below `row`, where the entry above left of the first is a.
@@ -162,5 +162,5 @@ module _ {A : Type 0} {R : CommutativeRing A} {q : ℕ} (F : IsFrobenius R q) wh
   pub Inside-frobenius_power : {L M : List A} → Inside R L M → Inside R (frobenius_power R q L) (frobenius_power R q M)
   Inside-frobenius_power I = Inside-RingMap F.ring_map I
 
-  pub Equal-frobenius_power : {L M : List A} → Equal R L M → Equal R (frobenius_power R q L) (frobenius_power R q M)
-  Equal-frobenius_power E = Equal-RingMap F.ring_map E
+  pub SameIdeal-frobenius_power : {L M : List A} → SameIdeal R L M → SameIdeal R (frobenius_power R q L) (frobenius_power R q M)
+  SameIdeal-frobenius_power E = SameIdeal-RingMap F.ring_map E

@@ -3,7 +3,7 @@ use Rattle.std.proofs.Common.{◌≡◌, ℕ, zero, suc, List, [], ◌∷◌, �
 use Rattle.std.proofs.lemmas.List.Elements.{All-nil, All-cons, All-head, All-tail, All-map, All-append, All-weaker, All-contains}
 use Rattle.fj_algebra.specs.Ring.{CommutativeRing, RingMap, subtract}
 use Rattle.fj_algebra.specs.Sum.{sum_over}
-use Rattle.fj_algebra.specs.Ideal.{combination, list_combination, Member, Inside, Equal, multiples, products}
+use Rattle.fj_algebra.specs.Ideal.{combination, list_combination, Member, Inside, SameIdeal, multiples, products}
 use Rattle.fj_algebra.proofs.Ring.{zero_add, add_zero, add_assoc, mul_add, add_mul, mul_zero, zero_mul, one_mul, mul_assoc, mul_one, mul_left_comm, mul_comm, neg_mul, ring_laws}
 
 -- The sequence a, c 0, c 1, ..
@@ -172,20 +172,20 @@ module _ {A : Type 0} {R : CommutativeRing A} where
   pub Inside-Contains : {L M : List A} {g : A} → Inside R L M → Contains L g → Member R M g
   Inside-Contains {L} {M} {g} I c = All-contains (Member R M) L g I.each c
 
-  pub Equal-refl : (L : List A) → Equal R L L
-  Equal-refl L = record { forth = Inside-refl L; back = Inside-refl L }
+  pub SameIdeal-refl : (L : List A) → SameIdeal R L L
+  SameIdeal-refl L = record { forth = Inside-refl L; back = Inside-refl L }
 
-  pub Equal-sym : {L M : List A} → Equal R L M → Equal R M L
-  Equal-sym E = record { forth = E.back; back = E.forth }
+  pub SameIdeal-sym : {L M : List A} → SameIdeal R L M → SameIdeal R M L
+  SameIdeal-sym E = record { forth = E.back; back = E.forth }
 
-  pub Equal-trans : {L M N : List A} → Equal R L M → Equal R M N → Equal R L N
-  Equal-trans E F = record { forth = Inside-trans E.forth F.forth; back = Inside-trans F.back E.back }
+  pub SameIdeal-trans : {L M N : List A} → SameIdeal R L M → SameIdeal R M N → SameIdeal R L N
+  SameIdeal-trans E F = record { forth = Inside-trans E.forth F.forth; back = Inside-trans F.back E.back }
 
-  pub Inside-Equal : {L L' M M' : List A} → Equal R L L' → Equal R M M' → Inside R L M → Inside R L' M'
-  Inside-Equal E F I = Inside-trans E.back (Inside-trans I F.forth)
+  pub Inside-SameIdeal : {L L' M M' : List A} → SameIdeal R L L' → SameIdeal R M M' → Inside R L M → Inside R L' M'
+  Inside-SameIdeal E F I = Inside-trans E.back (Inside-trans I F.forth)
 
-  pub Member-Equal : {L M : List A} {h : A} → Equal R L M → Member R L h → Member R M h
-  Member-Equal E H = Member-Inside E.forth H
+  pub Member-SameIdeal : {L M : List A} {h : A} → SameIdeal R L M → Member R L h → Member R M h
+  Member-SameIdeal E H = Member-Inside E.forth H
 
   -- The sum of two ideals: the ideal of both lists.
   pub Inside-append_left : (L M : List A) → Inside R L (L ++ M)
@@ -202,11 +202,11 @@ module _ {A : Type 0} {R : CommutativeRing A} where
   pub Inside-append_both : {L L' M M' : List A} → Inside R L L' → Inside R M M' → Inside R (L ++ M) (L' ++ M')
   Inside-append_both {L' = L'} {M' = M'} I J = Inside-append (Inside-trans I (Inside-append_left L' M')) (Inside-trans J (Inside-append_right L' M'))
 
-  pub Equal-append : {L L' M M' : List A} → Equal R L L' → Equal R M M' → Equal R (L ++ M) (L' ++ M')
-  Equal-append E F = record { forth = Inside-append_both E.forth F.forth; back = Inside-append_both E.back F.back }
+  pub SameIdeal-append : {L L' M M' : List A} → SameIdeal R L L' → SameIdeal R M M' → SameIdeal R (L ++ M) (L' ++ M')
+  SameIdeal-append E F = record { forth = Inside-append_both E.forth F.forth; back = Inside-append_both E.back F.back }
 
-  pub Equal-append_comm : (L M : List A) → Equal R (L ++ M) (M ++ L)
-  Equal-append_comm L M = record {
+  pub SameIdeal-append_comm : (L M : List A) → SameIdeal R (L ++ M) (M ++ L)
+  SameIdeal-append_comm L M = record {
     forth = Inside-append (Inside-append_right M L) (Inside-append_left M L);
     back = Inside-append (Inside-append_right L M) (Inside-append_left L M);
   }
@@ -235,8 +235,8 @@ module _ {A : Type 0} {R : CommutativeRing A} where
   pub Inside-multiples : {L M : List A} (f : A) → Inside R L M → Inside R (multiples R f L) (multiples R f M)
   Inside-multiples {L} {M} f I = record { each = All-map (Member R (multiples R f M)) (◌⊗◌ f) L (All-weaker (Member R M) (λ h. Member R (multiples R f M) (f ⊗ h)) (λ h H. Member-multiples f H) L I.each) }
 
-  pub Equal-multiples : {L M : List A} (f : A) → Equal R L M → Equal R (multiples R f L) (multiples R f M)
-  Equal-multiples f E = record { forth = Inside-multiples f E.forth; back = Inside-multiples f E.back }
+  pub SameIdeal-multiples : {L M : List A} (f : A) → SameIdeal R L M → SameIdeal R (multiples R f L) (multiples R f M)
+  SameIdeal-multiples f E = record { forth = Inside-multiples f E.forth; back = Inside-multiples f E.back }
 
   pub Inside-multiples_self : (f : A) (L : List A) → Inside R (multiples R f L) L
   Inside-multiples_self f L = record { each = All-map (Member R L) (◌⊗◌ f) L (All-weaker (Member R L) (λ h. Member R L (f ⊗ h)) (λ h H. Member-mul f H) L (Member-elements L)) }
@@ -264,14 +264,14 @@ module _ {A : Type 0} {R : CommutativeRing A} where
   pub Inside-products_both : {L L' M M' : List A} → Inside R L L' → Inside R M M' → Inside R (products R L M) (products R L' M')
   Inside-products_both {L} {L'} {M} {M'} I J = Inside-products_from L M (products R L' M') (λ a b H K. Member-products L' M' (Member-Inside I H) (Member-Inside J K))
 
-  pub Equal-products : {L L' M M' : List A} → Equal R L L' → Equal R M M' → Equal R (products R L M) (products R L' M')
-  Equal-products E F = record { forth = Inside-products_both E.forth F.forth; back = Inside-products_both E.back F.back }
+  pub SameIdeal-products : {L L' M M' : List A} → SameIdeal R L L' → SameIdeal R M M' → SameIdeal R (products R L M) (products R L' M')
+  SameIdeal-products E F = record { forth = Inside-products_both E.forth F.forth; back = Inside-products_both E.back F.back }
 
   Inside-products_comm : (L M : List A) → Inside R (products R L M) (products R M L)
   Inside-products_comm L M = Inside-products_from L M (products R M L) (λ a b H K. Member-same (mul_comm R a b) (Member-products M L K H))
 
-  pub Equal-products_comm : (L M : List A) → Equal R (products R L M) (products R M L)
-  Equal-products_comm L M = record { forth = Inside-products_comm L M; back = Inside-products_comm M L }
+  pub SameIdeal-products_comm : (L M : List A) → SameIdeal R (products R L M) (products R M L)
+  SameIdeal-products_comm L M = record { forth = Inside-products_comm L M; back = Inside-products_comm M L }
 
   -- To map a product's members, map the products of members.
   Member-products_into : (L M N : List A) (t : A) → ((a b : A) → Member R L a → Member R M b → Member R N ((a ⊗ b) ⊗ t)) → (h : A) → Member R (products R L M) h → Member R N (h ⊗ t)
@@ -287,22 +287,22 @@ module _ {A : Type 0} {R : CommutativeRing A} where
   Inside-products_assoc L M N = Inside-products_from (products R L M) N (products R L (products R M N)) (λ h t H T.
       Member-products_into L M (products R L (products R M N)) t (λ a b K B. Member-same (mul_assoc R a b t) (Member-products L (products R M N) K (Member-products M N B T))) h H)
 
-  pub Equal-products_assoc : (L M N : List A) → Equal R (products R (products R L M) N) (products R L (products R M N))
-  Equal-products_assoc L M N = record {
+  pub SameIdeal-products_assoc : (L M N : List A) → SameIdeal R (products R (products R L M) N) (products R L (products R M N))
+  SameIdeal-products_assoc L M N = record {
     forth = Inside-products_assoc L M N;
     back = Inside-trans (Inside-products_comm L (products R M N)) (Inside-trans (Inside-products_both (Inside-products_comm M N) (Inside-refl L)) (Inside-trans (Inside-products_assoc N M L) (Inside-trans (Inside-products_comm N (products R M L)) (Inside-products_both (Inside-products_comm M L) (Inside-refl N)))));
   }
 
   -- The unit ideal is the unit of the product.
-  pub Equal-products_one : (L : List A) → Equal R (products R (𝟙 ∷ []) L) L
-  Equal-products_one L = record {
+  pub SameIdeal-products_one : (L : List A) → SameIdeal R (products R (𝟙 ∷ []) L) L
+  SameIdeal-products_one L = record {
     forth = Inside-products_from (𝟙 ∷ []) L L (λ a b H K. Member-mul a K);
     back = Inside-from (λ h H. Member-same (sym (one_mul R h)) (Member-products (𝟙 ∷ []) L (Member-head 𝟙 []) H));
   }
 
   -- The product with the ideal of one element.
-  pub Equal-products_single : (f : A) (L : List A) → Equal R (products R (f ∷ []) L) (multiples R f L)
-  Equal-products_single f L = record {
+  pub SameIdeal-products_single : (f : A) (L : List A) → SameIdeal R (products R (f ∷ []) L) (multiples R f L)
+  SameIdeal-products_single f L = record {
     forth = Inside-append (Inside-refl (multiples R f L)) (Inside-nil (multiples R f L));
     back = Inside-append_left (multiples R f L) [];
   }
@@ -322,8 +322,8 @@ Member-RingMap {f} F {L} H = record { cofactors = λ j. f (H.cofactors j); is = 
 pub Inside-RingMap : {A B : Type 0} {R : CommutativeRing A} {S : CommutativeRing B} {f : A → B} → RingMap R S f → {L M : List A} → Inside R L M → Inside S (map f L) (map f M)
 Inside-RingMap {R} {S} {f} F {L} {M} I = record { each = All-map (Member S (map f M)) f L (All-weaker (Member R M) (λ h. Member S (map f M) (f h)) (λ h H. Member-RingMap F H) L I.each) }
 
-pub Equal-RingMap : {A B : Type 0} {R : CommutativeRing A} {S : CommutativeRing B} {f : A → B} → RingMap R S f → {L M : List A} → Equal R L M → Equal S (map f L) (map f M)
-Equal-RingMap F E = record { forth = Inside-RingMap F E.forth; back = Inside-RingMap F E.back }
+pub SameIdeal-RingMap : {A B : Type 0} {R : CommutativeRing A} {S : CommutativeRing B} {f : A → B} → RingMap R S f → {L M : List A} → SameIdeal R L M → SameIdeal S (map f L) (map f M)
+SameIdeal-RingMap F E = record { forth = Inside-RingMap F E.forth; back = Inside-RingMap F E.back }
 
 -- Where a ring map sends each element of the list to zero, it sends each member to zero.
 pub Member-vanishes : {A B : Type 0} {R : CommutativeRing A} {S : CommutativeRing B} {f : A → B} → RingMap R S f → {L : List A} {h : A} → All (λ g. f g ≡ S.zero) L → Member R L h → f h ≡ S.zero

@@ -3,14 +3,14 @@ use Rattle.std.proofs.Common.{◌≡◌, ◌≢◌, List, [], ◌∷◌, get_or,
 use Rattle.std.specs.List.{AllPairs}
 use Rattle.std.proofs.lemmas.List.Elements.{Contains-get_or, All-weaker}
 use Rattle.fj_algebra.specs.Ring.{subtract}
-use Rattle.fj_algebra.specs.Ideal.{Member, Inside, Equal}
+use Rattle.fj_algebra.specs.Ideal.{Member, Inside, SameIdeal}
 use Rattle.fj_algebra.specs.Order.{Divides, IsBelow}
 use Rattle.fj_algebra.specs.Polynomial.{OrderedPolynomials, IsLead, IsMonic}
 use Rattle.fj_algebra.specs.Buchberger.{IsReducible, LeadIsReducible, CoversLeads}
 use Rattle.fj_algebra.specs.Division.{IsRemainder}
 use Rattle.fj_algebra.specs.ReducedBasis.{LeadsRise, AreReduced, IsReducedBasis}
 use Rattle.fj_algebra.proofs.Ring.{subtract_self, equal_from_subtract}
-use Rattle.fj_algebra.proofs.Ideal.{Member-subtract, Member-Contains, Member-Inside, Member-Equal, Member-same, Member-nil, Member-zero, Inside-head, Inside-cons, Inside-nil, Inside-trans, Inside-Contains, Equal-sym, Equal-trans}
+use Rattle.fj_algebra.proofs.Ideal.{Member-subtract, Member-Contains, Member-Inside, Member-SameIdeal, Member-same, Member-nil, Member-zero, Inside-head, Inside-cons, Inside-nil, Inside-trans, Inside-Contains, SameIdeal-sym, SameIdeal-trans}
 use Rattle.fj_algebra.proofs.Pairs.{contains_cons, contains_head, contains_nil, All-from_elements, pair_of, same_elements}
 use Rattle.fj_algebra.proofs.Order.{below_irrefl, below_trans, not_below_multiple, divides_antisymm, Divides-trans, one_times}
 use Rattle.fj_algebra.proofs.Polynomial.{at_most_lead, coefficient_subtract, Supported-subtract, lead_from_monic, lead_unique, lead_nonzero, lead_or_zero, is_zero, term_one}
@@ -24,7 +24,7 @@ module _ {K M A : Type 0} (P : OrderedPolynomials K M A) where
   covers_same_ideal inside covers = record { covers = λ h m n. covers.covers h (Member-Inside inside m) n }
 
   -- A reduced basis is a reduced basis of every list with this ideal.
-  pub reduced_basis_same_ideal : {L L' G : List A} → Equal P.ring L L' → IsReducedBasis P L G → IsReducedBasis P L' G
+  pub reduced_basis_same_ideal : {L L' G : List A} → SameIdeal P.ring L L' → IsReducedBasis P L G → IsReducedBasis P L' G
   reduced_basis_same_ideal e b =
       record {
         members = Inside-trans b.members e.forth;
@@ -35,7 +35,7 @@ module _ {K M A : Type 0} (P : OrderedPolynomials K M A) where
       }
 
   -- The ideal of a reduced basis is the ideal of its list.
-  pub reduced_basis_generates : {L G : List A} → IsReducedBasis P L G → Equal P.ring L G
+  pub reduced_basis_generates : {L G : List A} → IsReducedBasis P L G → SameIdeal P.ring L G
   reduced_basis_generates b = record { forth = covers_generate P b.members b.covers; back = b.members }
 
   -- A list is a reduced basis of its own ideal as soon as it is one of some list.
@@ -50,10 +50,10 @@ module _ {K M A : Type 0} (P : OrderedPolynomials K M A) where
       [ inl e ↦ e | inr (inl r) ↦ absurd (r.first.free a b n l v) | inr (inr r) ↦ absurd (r.second.free a b n l v) ]
 
   -- the lead of a member of one reduced basis is the lead of a member of another with the same ideal
-  partner : {L L' G G' : List A} → Equal P.ring L L' → IsReducedBasis P L G → IsReducedBasis P L' G' → {g : A} {a : M} → Contains G g →
+  partner : {L L' G G' : List A} → SameIdeal P.ring L L' → IsReducedBasis P L G → IsReducedBasis P L' G' → {g : A} {a : M} → Contains G g →
       IsMonic P g a → (h : A) × Contains G' h × IsMonic P h a
   partner {L} {L'} {G} {G'} same basis basis' {g} {a} c is =
-      first (basis'.covers.covers g (Member-Equal same (Inside-Contains basis.members c)) (lead_nonzero P (lead_from_monic P is)))
+      first (basis'.covers.covers g (Member-SameIdeal same (Inside-Contains basis.members c)) (lead_nonzero P (lead_from_monic P is)))
     where
       second : (k : LeadIsReducible P (Contains G') g) → IsMonic P k.reducible.divisor k.reducible.lead →
           LeadIsReducible P (Contains G) k.reducible.divisor → (h : A) × Contains G' h × IsMonic P h a
@@ -73,24 +73,24 @@ module _ {K M A : Type 0} (P : OrderedPolynomials K M A) where
       first : LeadIsReducible P (Contains G') g → (h : A) × Contains G' h × IsMonic P h a
       first k =
           second k (monic_at (basis'.monic.lead k.reducible.divisor k.reducible.member))
-          (basis.covers.covers k.reducible.divisor (Member-Equal (Equal-sym same) (Inside-Contains basis'.members k.reducible.member))
+          (basis.covers.covers k.reducible.divisor (Member-SameIdeal (SameIdeal-sym same) (Inside-Contains basis'.members k.reducible.member))
           (lead_nonzero P k.reducible.is_lead))
         where
           monic_at : (b : M) × IsMonic P k.reducible.divisor b → IsMonic P k.reducible.divisor k.reducible.lead
           monic_at (b, m) = subst (IsMonic P k.reducible.divisor) (lead_unique P (lead_from_monic P m) k.reducible.is_lead) m
 
   -- members of two reduced bases of one ideal with the same lead are equal
-  same_lead : {L L' G G' : List A} → Equal P.ring L L' → IsReducedBasis P L G → IsReducedBasis P L' G' → {g h : A} {a : M} → Contains G g →
+  same_lead : {L L' G G' : List A} → SameIdeal P.ring L L' → IsReducedBasis P L G → IsReducedBasis P L' G' → {g h : A} {a : M} → Contains G g →
       Contains G' h → IsMonic P g a → IsMonic P h a → g ≡ h
   same_lead {L} {L'} {G} {G'} same basis basis' {g} {h} {a} c d is is' =
       elim (is_zero P (subtract P.ring g h)) [
         | yes z ↦ equal_from_subtract P.ring g h z
         | no n ↦ absurd (contradict (basis.covers.covers (subtract P.ring g h) in_L n)
-            (basis'.covers.covers (subtract P.ring g h) (Member-Equal same in_L) n))
+            (basis'.covers.covers (subtract P.ring g h) (Member-SameIdeal same in_L) n))
       ]
     where
       in_L : Member P.ring L (subtract P.ring g h)
-      in_L = Member-subtract (Inside-Contains basis.members c) (Member-Equal (Equal-sym same) (Inside-Contains basis'.members d))
+      in_L = Member-subtract (Inside-Contains basis.members c) (Member-SameIdeal (SameIdeal-sym same) (Inside-Contains basis'.members d))
 
       at_a : coefficient (subtract P.ring g h) a ≡ scalars.zero
       at_a = coefficient_subtract P.polynomials g h a ∙ rw (is.monic, is'.monic) (subtract_self scalars scalars.one)
@@ -117,7 +117,7 @@ module _ {K M A : Type 0} (P : OrderedPolynomials K M A) where
             (subst (IsReducible P (Contains G')) (lead_unique P k'.is_lead k.is_lead) k'.reducible)
       ]
 
-  shared : {L L' G G' : List A} → Equal P.ring L L' → IsReducedBasis P L G → IsReducedBasis P L' G' → (g : A) → Contains G g → Contains G' g
+  shared : {L L' G G' : List A} → SameIdeal P.ring L L' → IsReducedBasis P L G → IsReducedBasis P L' G' → (g : A) → Contains G g → Contains G' g
   shared {G' = G'} same basis basis' g c = go (basis.monic.lead g c)
     where
       go : (a : M) × IsMonic P g a → Contains G' g
@@ -145,13 +145,13 @@ module _ {K M A : Type 0} (P : OrderedPolynomials K M A) where
           }
 
   -- Two lists of one ideal have one reduced basis.
-  pub reduced_basis_unique : {L L' G G' : List A} → Equal P.ring L L' → IsReducedBasis P L G → IsReducedBasis P L' G' → G ≡ G'
+  pub reduced_basis_unique : {L L' G G' : List A} → SameIdeal P.ring L L' → IsReducedBasis P L G → IsReducedBasis P L' G' → G ≡ G'
   reduced_basis_unique {G = G} {G' = G'} same basis basis' = same_elements Rises
       (λ g r. below_irrefl order (subst (λ a. IsBelow order a r.second) (lead_unique P r.first_lead r.second_lead) r.below))
       (λ g h r s. below_irrefl order
       (below_trans order (subst (IsBelow order r.first) (lead_unique P r.second_lead s.first_lead) r.below)
       (subst (IsBelow order s.first) (lead_unique P s.second_lead r.first_lead) s.below)))
-      G G' (rises basis) (rises basis') (shared same basis basis') (shared (Equal-sym same) basis' basis)
+      G G' (rises basis) (rises basis') (shared same basis basis') (shared (SameIdeal-sym same) basis' basis)
 
   -- Membership in the ideal is decided by the remainder by a reduced basis.
   pub member_of_basis : {L G : List A} {h r : A} → IsReducedBasis P L G → IsRemainder P G h r → Member P.ring L h ↔ (r ≡ 𝟘)
@@ -222,8 +222,8 @@ module _ {K M A : Type 0} (P : OrderedPolynomials K M A) where
   )
 
   -- Two ideals are equal exactly where their reduced bases are equal lists.
-  pub same_ideal_by_basis : {L L' G G' : List A} → IsReducedBasis P L G → IsReducedBasis P L' G' → Equal P.ring L L' ↔ (G ≡ G')
+  pub same_ideal_by_basis : {L L' G G' : List A} → IsReducedBasis P L G → IsReducedBasis P L' G' → SameIdeal P.ring L L' ↔ (G ≡ G')
   same_ideal_by_basis {L} {L'} {G} {G'} basis basis' = (
     λ same. reduced_basis_unique same basis basis',
-    λ e. Equal-trans (reduced_basis_generates basis) (subst (λ H. Equal P.ring H L') (sym e) (Equal-sym (reduced_basis_generates basis'))),
+    λ e. SameIdeal-trans (reduced_basis_generates basis) (subst (λ H. SameIdeal P.ring H L') (sym e) (SameIdeal-sym (reduced_basis_generates basis'))),
   )

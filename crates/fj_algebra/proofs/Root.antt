@@ -3,7 +3,7 @@ use Rattle.std.proofs.Common.{◌≡◌, [], ◌∷◌, ℕ, ◌*◌, ◌+◌, L
 use Rattle.std.proofs.lemmas.List.Elements.{All-map, All-weaker, All-contains, All-contains_itself}
 use Rattle.fj_algebra.specs.Ring.{CommutativeRing}
 use Rattle.fj_algebra.specs.Power.{power}
-use Rattle.fj_algebra.specs.Ideal.{Member, Inside, Equal, multiples}
+use Rattle.fj_algebra.specs.Ideal.{Member, Inside, SameIdeal, multiples}
 use Rattle.fj_algebra.specs.Frobenius.{IsFrobenius, frobenius_power}
 use Rattle.fj_algebra.specs.Parts.{Parts}
 use Rattle.fj_algebra.specs.Root.{Root, all_parts}
@@ -15,12 +15,12 @@ use Rattle.fj_algebra.proofs.Parts.{part-combination, part-power_mul, origin-pow
 
 module _ {A : Type 0} {R : CommutativeRing A} where
   -- Two roots of one list are one ideal.
-  pub Root-unique : {q : ℕ} {L M N : List A} → Root R q L M → Root R q L N → Equal R M N
+  pub Root-unique : {q : ℕ} {L M N : List A} → Root R q L M → Root R q L N → SameIdeal R M N
   Root-unique {M} {N} X Y = record { forth = X.least N Y.inside; back = Y.least M X.inside }
 
   -- The root depends on the ideal alone.
-  pub Root-Equal : {q : ℕ} {L L' M : List A} → Equal R L L' → Root R q L M → Root R q L' M
-  Root-Equal E X = record { inside = Inside-trans E.back X.inside; least = λ N I. X.least N (Inside-trans E.forth I) }
+  pub Root-SameIdeal : {q : ℕ} {L L' M : List A} → SameIdeal R L L' → Root R q L M → Root R q L' M
+  Root-SameIdeal E X = record { inside = Inside-trans E.back X.inside; least = λ N I. X.least N (Inside-trans E.forth I) }
 
   pub Root-monotone : {q : ℕ} {L L' M M' : List A} → Inside R L L' → Root R q L M → Root R q L' M' → Inside R M M'
   Root-monotone {M' = M'} I X Y = X.least M' (Inside-trans I Y.inside)
@@ -31,8 +31,8 @@ module _ {A : Type 0} {R : CommutativeRing A} where
 
   module _ {q : ℕ} (F : IsFrobenius R q) where
     -- An ideal equal to a root is the root.
-    pub Root-Equal_root : {L M M' : List A} → Equal R M M' → Root R q L M → Root R q L M'
-    Root-Equal_root E X = record { inside = Inside-trans X.inside (Inside-frobenius_power F E.forth); least = λ N I. Inside-trans E.back (X.least N I) }
+    pub Root-SameIdeal_root : {L M M' : List A} → SameIdeal R M M' → Root R q L M → Root R q L M'
+    Root-SameIdeal_root E X = record { inside = Inside-trans X.inside (Inside-frobenius_power F E.forth); least = λ N I. Inside-trans E.back (X.least N I) }
 
     -- The adjunction: the root is inside (N) exactly where L is inside (N^[q]). The other way is `least`.
     pub Inside-Root : {L M N : List A} → Root R q L M → Inside R M N → Inside R L (frobenius_power R q N)

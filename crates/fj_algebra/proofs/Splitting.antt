@@ -3,7 +3,7 @@ use Rattle.std.proofs.Common.{◌≡◌, ℕ, List, Contains, sym, ap, ◌∙◌
 use Rattle.std.proofs.lemmas.List.Elements.{All-weaker, All-contains_itself}
 use Rattle.fj_algebra.specs.Ring.{CommutativeRing}
 use Rattle.fj_algebra.specs.Power.{power}
-use Rattle.fj_algebra.specs.Ideal.{Equal, Member, Inside, multiples}
+use Rattle.fj_algebra.specs.Ideal.{SameIdeal, Member, Inside, multiples}
 use Rattle.fj_algebra.specs.Frobenius.{frobenius_power}
 use Rattle.fj_algebra.specs.Parts.{Parts, from_parts}
 use Rattle.fj_algebra.specs.Root.{Root}
@@ -17,14 +17,14 @@ use Rattle.fj_algebra.proofs.Colon.{Inside-InColon, InColon-Inside, InColon-from
 use Rattle.fj_algebra.proofs.Parts.{part-sum_over, part-power_mul}
 use Rattle.fj_algebra.proofs.Root.{Member-part, Member-from_parts}
 
-pub KeepsIdeal-Equal : {A : Type 0} {R : CommutativeRing A} {phi : A → A} {L M : List A} → Equal R L M → KeepsIdeal R phi L → KeepsIdeal R phi M
-KeepsIdeal-Equal E X = record { each = λ g G. Member-Inside E.forth (X.each g (Member-Inside E.back G)) }
+pub KeepsIdeal-SameIdeal : {A : Type 0} {R : CommutativeRing A} {phi : A → A} {L M : List A} → SameIdeal R L M → KeepsIdeal R phi L → KeepsIdeal R phi M
+KeepsIdeal-SameIdeal E X = record { each = λ g G. Member-Inside E.forth (X.each g (Member-Inside E.back G)) }
 
-pub IsFPure-Equal : {A Residue : Type 0} {R : CommutativeRing A} {q : ℕ} {P : Parts R Residue q} {L M : List A} → Equal R L M → IsFPure P L → IsFPure P M
-IsFPure-Equal E X = record { values = X.values; keeps = KeepsIdeal-Equal E X.keeps; splits = Member-Inside E.forth X.splits }
+pub IsFPure-SameIdeal : {A Residue : Type 0} {R : CommutativeRing A} {q : ℕ} {P : Parts R Residue q} {L M : List A} → SameIdeal R L M → IsFPure P L → IsFPure P M
+IsFPure-SameIdeal E X = record { values = X.values; keeps = KeepsIdeal-SameIdeal E X.keeps; splits = Member-Inside E.forth X.splits }
 
-pub IsFPureAt-Equal : {A B Residue : Type 0} {R : CommutativeRing A} {q : ℕ} {S : CommutativeRing B} {at_point : A → B} {P : Parts R Residue q} {L M : List A} → Equal R L M → IsFPureAt S at_point P L → IsFPureAt S at_point P M
-IsFPureAt-Equal E X = record { values = X.values; keeps = KeepsIdeal-Equal E X.keeps; nonzero = X.nonzero }
+pub IsFPureAt-SameIdeal : {A B Residue : Type 0} {R : CommutativeRing A} {q : ℕ} {S : CommutativeRing B} {at_point : A → B} {P : Parts R Residue q} {L M : List A} → SameIdeal R L M → IsFPureAt S at_point P L → IsFPureAt S at_point P M
+IsFPureAt-SameIdeal E X = record { values = X.values; keeps = KeepsIdeal-SameIdeal E X.keeps; nonzero = X.nonzero }
 
 module _ {A Residue : Type 0} {R : CommutativeRing A} {q : ℕ} {P : Parts R Residue q} (T : Trace P) where
   open R use {zero as 𝟘, one as 𝟙, add as ◌⊕◌, neg as ⊖◌, mul as ◌⊗◌}

@@ -17,7 +17,7 @@ pub record Inside {A : Type 0} (R : CommutativeRing A) (L M : List A) : Type 0 w
   pub each : All (Member R M) L
 
 -- (L) and (M) are one ideal.
-pub record Equal {A : Type 0} (R : CommutativeRing A) (L M : List A) : Type 0 where
+pub record SameIdeal {A : Type 0} (R : CommutativeRing A) (L M : List A) : Type 0 where
   pub forth : Inside R L M
   pub back : Inside R M L
 

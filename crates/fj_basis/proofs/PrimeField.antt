@@ -8,7 +8,6 @@ use Rattle.fj_coeff.specs.PrimeField.{prime_field}
 use Rattle.fj_theory.specs.Exponents.{divides, minus, plus}
 use Rattle.fj_theory.specs.Polynomial.{Polynomial, IsPolynomial, coefficient, convolution, product, sum, support, total_over, with_coefficients}
 use Rattle.fj_theory.specs.Ideal.{ArePolynomials, list_combination}
-use Rattle.fj_theory.specs.Certificate.{combination}
 use Rattle.fj_theory.proofs.Field.{characteristic_large, one_below, zero_below}
 use Rattle.fj_theory.proofs.Polynomial.{coefficient_below}
 use Rattle.fj_theory.proofs.Product.{IsPolynomial-product, total_over_below}
@@ -105,8 +104,8 @@ module _ {F : Field} (L : IsField F) where
         ap (λ (c : List ℕ → ℕ). with_coefficients c (flat_map (λ b. map (plus b) (support g)) (support f))) same
 
     -- Combinations are those over the prime field.
-    pub combination_is : (cs N : List Polynomial) → ArePolynomials F cs → ArePolynomials F N → list_combination F cs N ≡ combination (prime_field F.characteristic) cs N
-    unfolding list_combination combination
+    pub combination_is : (cs N : List Polynomial) → ArePolynomials F cs → ArePolynomials F N → list_combination F cs N ≡ list_combination (prime_field F.characteristic) cs N
+    unfolding list_combination
     combination_is [] N C A = refl
     combination_is (c ∷ cs) [] C A = refl
     combination_is (c ∷ cs) (g ∷ N) C A =

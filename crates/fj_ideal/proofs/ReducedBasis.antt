@@ -6,7 +6,7 @@ use Rattle.fj_coeff.specs.Field.{Field, IsField}
 use Rattle.fj_theory.specs.Exponents.{IsExponents, origin}
 use Rattle.fj_theory.specs.MonomialOrder.{IsMonomialOrder, grevlex_key}
 use Rattle.fj_theory.specs.Polynomial.{Polynomial, IsPolynomial, coefficient, degree, term, sum}
-use Rattle.fj_theory.specs.Ideal.{ArePolynomials, Member, Inside, Equal, list_combination, products}
+use Rattle.fj_theory.specs.Ideal.{ArePolynomials, Member, Inside, SameIdeal, list_combination, products}
 use Rattle.fj_theory.specs.Lead.{lead_coefficient, lead_exponents}
 use Rattle.fj_theory.specs.ReducedBasis.{IsReducedBasis}
 use Rattle.fj_theory.specs.Rows.{AreRows, IsRow}
@@ -22,8 +22,8 @@ use Rattle.fj_theory.proofs.Degree.{degree_bounds, degree-term}
 use Rattle.fj_theory.proofs.Lead.{IsExponents-lead, coefficient-lead, nonzero-lead_coefficient}
 use Rattle.fj_theory.proofs.PolynomialRing.{sum_empty}
 use Rattle.fj_theory.proofs.IdealBridge.{IsPolynomial-one}
-use Rattle.fj_theory.proofs.Ideal.{Equal-refl, Equal-sym, Equal-append, Equal-products, Inside-trans}
-use Rattle.fj_theory.proofs.ReducedBasis.{IsReducedBasis_polynomials, IsReducedBasis-Equal, IsReducedBasis-one, IsReducedBasis-zero, IsReducedBasis-unique, IsReducedBasis-same_ideal, Equal-IsReducedBasis}
+use Rattle.fj_theory.proofs.Ideal.{SameIdeal-refl, SameIdeal-sym, SameIdeal-append, SameIdeal-products, Inside-trans}
+use Rattle.fj_theory.proofs.ReducedBasis.{IsReducedBasis_polynomials, IsReducedBasis-SameIdeal, IsReducedBasis-one, IsReducedBasis-zero, IsReducedBasis-unique, IsReducedBasis-same_ideal, SameIdeal-IsReducedBasis}
 use Rattle.fj_theory.proofs.Division.{Member-IsDivision, IsDivision-quotients}
 use Rattle.fj_theory.proofs.DegreeOrder.{polynomials_of-given}
 use Rattle.fj_theory.proofs.Rows.{IsPolynomial-list_combination}
@@ -81,13 +81,13 @@ module _ {F : Field} (L : IsField F) where
     pub members_nonzero : All (λ g. g ≢ empty) J.members
     members_nonzero k d l = let monic = I.reduced.monic k d l in nonzero-lead_coefficient grevlex (ArePolynomials-members.each k d l) (omega (arith, monic))
 
-    pub Equal-members : Equal F J.given J.members
-    Equal-members = IsReducedBasis-Equal grevlex L I.polynomials I.reduced
+    pub SameIdeal-members : SameIdeal F J.given J.members
+    SameIdeal-members = IsReducedBasis-SameIdeal grevlex L I.polynomials I.reduced
 
     -- The ideal is the unit ideal exactly where its basis is one polynomial, of degree 0.
     one_member : Member F J.given (term 1 origin) → J.members ≡ term 1 origin ∷ []
     one_member m =
-        IsReducedBasis-unique grevlex L I.polynomials I.polynomials (Equal-refl L I.polynomials) I.reduced ((IsReducedBasis-one grevlex L I.polynomials).1 m)
+        IsReducedBasis-unique grevlex L I.polynomials I.polynomials (SameIdeal-refl L I.polynomials) I.reduced ((IsReducedBasis-one grevlex L I.polynomials).1 m)
 
     -- The ideal is the unit ideal exactly where its basis is one polynomial, of degree 0.
     pub unit_from_member : (g : Polynomial) → J.members ≡ g ∷ [] → (degree g ≡ Some 0) ↔ Member F J.given (term 1 origin)
@@ -109,16 +109,16 @@ module _ {F : Field} (L : IsField F) where
     pub zero_from_members : (J.members ≡ []) ↔ All (λ g. g ≡ empty) J.given
     zero_from_members = (
       λ e. (IsReducedBasis-zero grevlex L I.polynomials).0 (subst (IsReducedBasis F grevlex_key J.given) e I.reduced),
-      λ all. IsReducedBasis-unique grevlex L I.polynomials I.polynomials (Equal-refl L I.polynomials) I.reduced ((IsReducedBasis-zero grevlex L I.polynomials).1 all),
+      λ all. IsReducedBasis-unique grevlex L I.polynomials I.polynomials (SameIdeal-refl L I.polynomials) I.reduced ((IsReducedBasis-zero grevlex L I.polynomials).1 all),
     )
 
     -- A point is a zero of the basis exactly where it is one of the given list.
     pub zeros_of_members : {point : List ℕ} → IsPoint F point → IsZeroOf F J.members point ↔ IsZeroOf F J.given point
-    zeros_of_members at = (Inside-IsZeroOf L at ArePolynomials-members Equal-members.forth, Inside-IsZeroOf L at I.polynomials Equal-members.back)
+    zeros_of_members at = (Inside-IsZeroOf L at ArePolynomials-members SameIdeal-members.forth, Inside-IsZeroOf L at I.polynomials SameIdeal-members.back)
 
     -- The basis for another order.
     pub IsReducedBasis-given : {key : List ℕ → List ℕ} → IsMonomialOrder key → {G : List Polynomial} → IsReducedBasis F key J.members G → IsReducedBasis F key J.given G
-    IsReducedBasis-given K S = IsReducedBasis-same_ideal K L ArePolynomials-members I.polynomials (Equal-sym Equal-members) S
+    IsReducedBasis-given K S = IsReducedBasis-same_ideal K L ArePolynomials-members I.polynomials (SameIdeal-sym SameIdeal-members) S
 
     -- Division by the members.
     module _ {h r : Polynomial} {quotients : List Polynomial} (H : IsPolynomial F h) (D : IsDivided F grevlex_key (map given J.members) (given h) quotients r) where
@@ -149,19 +149,19 @@ module _ {F : Field} (L : IsField F) where
 
   module _ {I J : WithBasis} (A : IsIdeal F I) (B : IsIdeal F J) where
     -- The ideals are equal exactly where their bases are.
-    pub Equal-same_members : Equal F I.given J.given ↔ (I.members ≡ J.members)
-    Equal-same_members = Equal-IsReducedBasis grevlex L A.polynomials B.polynomials A.reduced B.reduced
+    pub SameIdeal-same_members : SameIdeal F I.given J.given ↔ (I.members ≡ J.members)
+    SameIdeal-same_members = SameIdeal-IsReducedBasis grevlex L A.polynomials B.polynomials A.reduced B.reduced
 
     -- One is inside the other exactly where the members of its basis are.
     pub Inside-members : Inside F J.given I.given ↔ All (Member F I.given) J.members
     Inside-members = (
-      λ inside. (Inside-trans L (ArePolynomials-members B) B.polynomials A.polynomials (Equal-members B).back inside).each,
-      λ all. Inside-trans L B.polynomials (ArePolynomials-members B) A.polynomials (Equal-members B).forth (record { each = all }),
+      λ inside. (Inside-trans L (ArePolynomials-members B) B.polynomials A.polynomials (SameIdeal-members B).back inside).each,
+      λ all. Inside-trans L B.polynomials (ArePolynomials-members B) A.polynomials (SameIdeal-members B).forth (record { each = all }),
     )
 
     -- Sums and products by members.
-    pub Equal-sum : Equal F (I.given ++ J.given) (I.members ++ J.members)
-    Equal-sum = Equal-append L A.polynomials (ArePolynomials-members A) B.polynomials (ArePolynomials-members B) (Equal-members A) (Equal-members B)
+    pub SameIdeal-sum : SameIdeal F (I.given ++ J.given) (I.members ++ J.members)
+    SameIdeal-sum = SameIdeal-append L A.polynomials (ArePolynomials-members A) B.polynomials (ArePolynomials-members B) (SameIdeal-members A) (SameIdeal-members B)
 
-    pub Equal-product : Equal F (products F I.given J.given) (products F I.members J.members)
-    Equal-product = Equal-products L A.polynomials (ArePolynomials-members A) B.polynomials (ArePolynomials-members B) (Equal-members A) (Equal-members B)
+    pub SameIdeal-product : SameIdeal F (products F I.given J.given) (products F I.members J.members)
+    SameIdeal-product = SameIdeal-products L A.polynomials (ArePolynomials-members A) B.polynomials (ArePolynomials-members B) (SameIdeal-members A) (SameIdeal-members B)

@@ -2,7 +2,7 @@ ghost use Rattle.std.specs.Prelude.{◌≡◌, ◌<◌, ◌↔◌, [], All, IfOk
 ghost use Rattle.std.specs.FinMap.{empty};
 ghost use Rattle.fj_theory.specs.Evaluation.{IsPoint, IsZeroOf, value};
 ghost use Rattle.fj_theory.specs.Exponents.{origin};
-ghost use Rattle.fj_theory.specs.Ideal.{ArePolynomials, Equal, Member};
+ghost use Rattle.fj_theory.specs.Ideal.{ArePolynomials, SameIdeal, Member};
 ghost use Rattle.fj_theory.specs.Polynomial.{term};
 ghost use Rattle.fj_theory.specs.ReducedBasis.{IsReducedBasis};
 ghost use Rattle.fj_theory.specs.Run.{TooHigh, Unfinished};
@@ -125,7 +125,7 @@ impl<K: Coeff> Ideal<K> {
 
     /// Whether the two are one ideal.
     pub fn same(&self, o: &Ideal<K>) -> bool
-        ensures { IsTrue result ↔ Equal K.field self.now.given o.now.given }
+        ensures { IsTrue result ↔ SameIdeal K.field self.now.given o.now.given }
     {
         are_same(self.members(), o.members())
     }

@@ -1,6 +1,6 @@
 ghost use Rattle.std.specs.Prelude.{◌≡◌, ◌++◌, ◌∷◌, [], IfOk};
 ghost use Rattle.std.specs.List.{Any};
-ghost use Rattle.fj_theory.specs.Ideal.{ArePolynomials, Equal, products};
+ghost use Rattle.fj_theory.specs.Ideal.{ArePolynomials, SameIdeal, products};
 ghost use Rattle.fj_theory.specs.Polynomial.{IsPolynomial, product};
 ghost use Rattle.fj_poly.specs.Limit.{IsHigh};
 ghost use Rattle.fj_plain.specs.OrderRow.{order_in_row};
@@ -65,7 +65,7 @@ impl<K: Coeff> Ideal<K> {
     /// within these turns or, where no pair is then pending, in finishing. Both keep this list. `Product` never comes.
     pub fn sum(&self, alloc: Global, o: &Ideal<K>, pairs: u64) -> Result<Ideal<K>, Stop>
         ensures value { IfOk result (IsIdealOf K.field (self.now.members ++ o.now.members)) }
-        ensures ideal { IfOk result (λ J. Equal K.field (self.now.given ++ o.now.given) J.given) }
+        ensures ideal { IfOk result (λ J. SameIdeal K.field (self.now.given ++ o.now.given) J.given) }
         ensures stop { StopsAsRun K.field (self.now.members ++ o.now.members) pairs result }
     {
         let mut list = copy_list(alloc, self.members())?;
@@ -81,7 +81,7 @@ impl<K: Coeff> Ideal<K> {
     /// these turns or, where no pair is then pending, in finishing. Both keep the list of the products.
     pub fn product(&self, alloc: Global, o: &Ideal<K>, pairs: u64) -> Result<Ideal<K>, Stop>
         ensures value { IfOk result (IsIdealOf K.field (products K.field self.now.members o.now.members)) }
-        ensures ideal { IfOk result (λ J. Equal K.field (products K.field self.now.given o.now.given) J.given) }
+        ensures ideal { IfOk result (λ J. SameIdeal K.field (products K.field self.now.given o.now.given) J.given) }
         ensures stop { StopsAsProducts K.field self.now.members o.now.members pairs result }
     {
         let list = products_of(alloc, self.members(), o.members())?;

@@ -4,7 +4,7 @@ use Rattle.std.specs.Int.{IsGcd}
 use Rattle.fj_coeff.specs.Field.{primes}
 use Rattle.fj_coeff.specs.PrimeFieldLaws.{prime_bounds}
 use Rattle.fj_theory.specs.Fraction.{Fraction, IsInUnitInterval, IsLowest}
-use Rattle.fj_theory.specs.Digits.{truncation, digits, IsOrder, IsPeriod, IsExpansion}
+use Rattle.fj_theory.specs.Digits.{ceiling_less_one, digits, IsOrder, IsPeriod, IsExpansion}
 use Rattle.fj_theory.proofs.Digits.{digits-push, digits_below, length-digits, Any-value_of}
 use Rattle.fj_theory.proofs.Period.{IsRemainder, remainder-first, remainder-next, period_value}
 use Rattle.fj_ratio.specs.ExpansionDigits.{AreDigits}
@@ -12,7 +12,7 @@ use Rattle.fj_ratio.specs.ExpansionDigits.{AreDigits}
 -- The items are digits of t from a place on, and the remainder is that of the place after them.
 pub record IsExpanded (p : ℕ) (t : Fraction) (from count : ℕ) (items : List ℕ) (remainder : ℕ) : Type 0 where
   pub digits_are : items ≡ digits p t from count
-  pub remainder_is : IsRemainder p t (from + count) (truncation p t (from + count)) remainder
+  pub remainder_is : IsRemainder p t (from + count) (ceiling_less_one p t (from + count)) remainder
 
 pub IsExpanded-first : (p : ℕ) (t : Fraction) → IsInUnitInterval t → IsExpanded p t 0 0 [] t.numerator
 unfolding digits
@@ -26,7 +26,7 @@ pub IsExpanded-after : (p : ℕ) (t : Fraction) (count : ℕ) (items : List ℕ)
 unfolding digits
 IsExpanded-after p t count items remainder h =
     let place : 0 + count ≡ count + 0 = omega arith in
-    record { digits_are = refl; remainder_is = subst (λ e. IsRemainder p t e (truncation p t e) remainder) place h.remainder_is }
+    record { digits_are = refl; remainder_is = subst (λ e. IsRemainder p t e (ceiling_less_one p t e) remainder) place h.remainder_is }
 
 pub IsExpanded-more : (p : ℕ) (t : Fraction) (from count : ℕ) (items : List ℕ) (remainder d next : ℕ) → 0 < p → 0 < t.numerator
     → IsExpanded p t from count items remainder → p * remainder ≡ t.denominator * d + next → 0 < next → next ≤ t.denominator
@@ -36,7 +36,7 @@ IsExpanded-more p t from count items remainder d next positive above h step some
     let place : from + count + 1 ≡ from + (count + 1) = omega arith in
     record {
       digits_are = ap (λ ds. ds ++ d ∷ []) h.digits_are ∙ sym (rw (add-one, digits-push p t from count) (ap (λ k. digits p t from count ++ k ∷ []) continues.digit_is));
-      remainder_is = subst (λ e. IsRemainder p t e (truncation p t e) next) place continues.remainder;
+      remainder_is = subst (λ e. IsRemainder p t e (ceiling_less_one p t e) next) place continues.remainder;
     }
 
 -- The digits of the pre-period and of the period are the expansion.

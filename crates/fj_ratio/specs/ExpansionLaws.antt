@@ -2,14 +2,14 @@
 use Rattle.std.specs.Prelude.{◌≡◌, ℕ, ◌+◌, ◌*◌, ◌^◌, ◌<◌, ◌≤◌, ◌⊎◌, List, length, Any, Contains}
 use Rattle.fj_coeff.specs.Field.{primes}
 use Rattle.fj_theory.specs.Fraction.{Fraction, SameValue, IsInUnitInterval, ceil_times}
-use Rattle.fj_theory.specs.Digits.{truncation, value_of, Expansion, IsExpansion, repeated}
+use Rattle.fj_theory.specs.Digits.{ceiling_less_one, value_of, Expansion, IsExpansion, repeated_value}
 use Rattle.fj_theory.specs.Candidates.{AreCandidates, IsInside, gaps}
 
 -- With c digits in the pre-period and b in the period, and N_c = ceil(t*p^c) - 1: the pre-period writes N_c; the rest
 -- u = p^c*t - N_c lies in (0, 1]; the period writes a = u*(p^b - 1), positive and below p^b; and for each k
 -- ceil(t*p^(c+k*b)) = p^(k*b)*N_c + a*(1 + p^b + .. + p^((k-1)*b)) + 1.
 pub record IsWritten (p : ℕ) (t : Fraction) (d : Expansion) : Type 0 where
-  pub pre : value_of p d.pre ≡ truncation p t (length d.pre)
+  pub pre : value_of p d.pre ≡ ceiling_less_one p t (length d.pre)
   -- u is remainder/rest
   pub rest : ℕ
   pub remainder : ℕ
@@ -21,7 +21,7 @@ pub record IsWritten (p : ℕ) (t : Fraction) (d : Expansion) : Type 0 where
   pub period_positive : 0 < value_of p d.period
   pub period_below : value_of p d.period < p ^ length d.period
   pub ceilings : (k : ℕ) → ceil_times t (p ^ (length d.pre + k * length d.period))
-      ≡ p ^ (k * length d.period) * value_of p d.pre + repeated (p ^ length d.period) (value_of p d.period) k + 1
+      ≡ p ^ (k * length d.period) * value_of p d.pre + repeated_value (p ^ length d.period) (value_of p d.period) k + 1
 
 -- What the expansion of a fraction of (0, 1] writes.
 abbrev pub ExpansionWrites : Type 0

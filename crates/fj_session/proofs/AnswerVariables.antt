@@ -5,13 +5,13 @@ use Rattle.fj_algebra.proofs.Lists.{All-map_back}
 use Rattle.fj_coeff.specs.Field.{Field, IsField}
 use Rattle.fj_coeff.specs.PrimeField.{prime_field}
 use Rattle.fj_coeff.specs.PrimeFieldLaws.{IsField-prime_field}
-use Rattle.fj_theory.specs.Ideal.{ArePolynomials, Equal}
+use Rattle.fj_theory.specs.Ideal.{ArePolynomials, SameIdeal}
 use Rattle.fj_theory.specs.Plain.{polynomial}
 use Rattle.fj_theory.specs.PointIdeal.{UsesFirst}
 use Rattle.fj_theory.specs.Polynomial.{Polynomial, IsPolynomial}
 use Rattle.fj_theory.specs.Root.{IsRoot}
 use Rattle.fj_theory.proofs.FrobeniusPower.{ArePolynomials-frobenius_power}
-use Rattle.fj_theory.proofs.Ideal.{ArePolynomials-append, ArePolynomials-products, Equal-refl}
+use Rattle.fj_theory.proofs.Ideal.{ArePolynomials-append, ArePolynomials-products, SameIdeal-refl}
 use Rattle.fj_theory.proofs.IdealBridge.{ArePolynomials-head, ArePolynomials-single, ArePolynomials-tail}
 use Rattle.fj_theory.proofs.Lacking.{IsReducedBasis-UsesFirst}
 use Rattle.fj_theory.proofs.PartsExistence.{parts_of, IsParts-parts_of}
@@ -39,7 +39,7 @@ record IsGenerated (F : Field) (n : ℕ) (M : List Polynomial) : Type 0 where
   list : List Polynomial
   are : ArePolynomials F list
   uses : All (UsesFirst n) list
-  same : Equal F M list
+  same : SameIdeal F M list
 
 -- A root of an ideal in the first n variables is generated in them: by parts.
 record HasRoot (F : Field) (n q : ℕ) (J : List Polynomial) : Type 0 where
@@ -76,7 +76,7 @@ module _ (env : Env) (asked : Asked) (one : AreOfOneSession env asked) where
   ideal_uses j J = subst (All (UsesFirst (length env.vars))) (sym (ideal_named j J)) (All-map (UsesFirst (length env.vars)) polynomial J.gens J.variables)
 
   itself : {M : List Polynomial} → ArePolynomials (prime_field env.p) M → All (UsesFirst (length env.vars)) M → IsGenerated (prime_field env.p) (length env.vars) M
-  itself {M} A uses = record { list = M; are = A; uses = uses; same = Equal-refl (IsField-prime_field env.p (prime_known env asked one)) A }
+  itself {M} A uses = record { list = M; are = A; uses = uses; same = SameIdeal-refl (IsField-prime_field env.p (prime_known env asked one)) A }
 
   -- The ideal that a question asks for is generated in the variables of the ring.
   asked_is_generated : (q : Question) → asked.question ≡ q → (M : List Polynomial) → AsksFor (prime_field env.p) env q M → IsGenerated (prime_field env.p) (length env.vars) M

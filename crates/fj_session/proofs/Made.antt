@@ -2,16 +2,16 @@
 use Rattle.std.proofs.Common.{◌≡◌, ℕ, ◌^◌, List, sym, ◌∙◌, subst, refl}
 use Rattle.fj_coeff.specs.Field.{Field, IsField}
 use Rattle.fj_theory.specs.FrobeniusPower.{frobenius_power}
-use Rattle.fj_theory.specs.Ideal.{ArePolynomials, Equal}
+use Rattle.fj_theory.specs.Ideal.{ArePolynomials, SameIdeal}
 use Rattle.fj_theory.specs.MonomialOrder.{grevlex_key}
 use Rattle.fj_theory.specs.Polynomial.{Polynomial}
 use Rattle.fj_theory.specs.ReducedBasis.{IsReducedBasis}
 use Rattle.fj_theory.specs.Root.{IsRoot}
-use Rattle.fj_theory.proofs.FrobeniusPower.{Equal-frobenius_power}
-use Rattle.fj_theory.proofs.Ideal.{Equal-refl, Equal-sym}
+use Rattle.fj_theory.proofs.FrobeniusPower.{SameIdeal-frobenius_power}
+use Rattle.fj_theory.proofs.Ideal.{SameIdeal-refl, SameIdeal-sym}
 use Rattle.fj_theory.proofs.Keys.{grevlex_key-IsMonomialOrder}
-use Rattle.fj_theory.proofs.ReducedBasis.{IsReducedBasis_polynomials, IsReducedBasis-Equal}
-use Rattle.fj_theory.proofs.Root.{IsRoot-Equal}
+use Rattle.fj_theory.proofs.ReducedBasis.{IsReducedBasis_polynomials, IsReducedBasis-SameIdeal}
+use Rattle.fj_theory.proofs.Root.{IsRoot-SameIdeal}
 use Rattle.fj_ideal.specs.Ideal.{IsIdealOf, WithBasis}
 use Rattle.fj_script.specs.declared.question.Question.TheVariants as questions
 use Rattle.fj_script.specs.declared.script.Env.{Env}
@@ -20,8 +20,8 @@ use Rattle.fj_session.specs.Outcome.{IsIdealFor}
 use Rattle.fj_session.proofs.OwnStops.{polynomials_of_list}
 
 module _ {F : Field} (L : IsField F) (env : Env) (e j : ℕ) {G : List Polynomial} (A : ArePolynomials F (ideal_at env j)) (B : IsReducedBasis F grevlex_key (ideal_at env j) G) where
-  same_ideal : Equal F (ideal_at env j) G
-  same_ideal = IsReducedBasis-Equal grevlex_key-IsMonomialOrder L A B
+  same_ideal : SameIdeal F (ideal_at env j) G
+  same_ideal = IsReducedBasis-SameIdeal grevlex_key-IsMonomialOrder L A B
 
   members_polynomials : ArePolynomials F G
   members_polynomials = IsReducedBasis_polynomials grevlex_key-IsMonomialOrder L A B
@@ -30,8 +30,8 @@ module _ {F : Field} (L : IsField F) (env : Env) (e j : ℕ) {G : List Polynomia
   pub root_made : {M : List Polynomial} {J : WithBasis} → IsRoot F (F.characteristic ^ e) G M → IsIdealOf F M J → IsIdealFor F env (questions.Root e j) J
   root_made {M} {J} root is = record {
     ideal = M;
-    asked = IsRoot-Equal L members_polynomials A (Equal-sym same_ideal) root;
-    same = subst (Equal F M) (sym is.given) (Equal-refl L (polynomials_of_list is));
+    asked = IsRoot-SameIdeal L members_polynomials A (SameIdeal-sym same_ideal) root;
+    same = subst (SameIdeal F M) (sym is.given) (SameIdeal-refl L (polynomials_of_list is));
     is_ideal = is.ideal;
   }
 
@@ -40,6 +40,6 @@ module _ {F : Field} (L : IsField F) (env : Env) (e j : ℕ) {G : List Polynomia
   power_made {M} {J} powers is = record {
     ideal = frobenius_power F (F.characteristic ^ e) (ideal_at env j);
     asked = refl;
-    same = subst (Equal F (frobenius_power F (F.characteristic ^ e) (ideal_at env j))) (sym (is.given ∙ powers)) (Equal-frobenius_power L e A members_polynomials same_ideal);
+    same = subst (SameIdeal F (frobenius_power F (F.characteristic ^ e) (ideal_at env j))) (sym (is.given ∙ powers)) (SameIdeal-frobenius_power L e A members_polynomials same_ideal);
     is_ideal = is.ideal;
   }

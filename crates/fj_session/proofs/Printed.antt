@@ -3,11 +3,11 @@ use Rattle.std.proofs.Common.{◌≡◌, ◌≢◌, ℕ, List, Result, IfErr, If
 use Rattle.std.specs.Result.{IsErrAnd}
 use Rattle.std.proofs.lemmas.List.Elements.{All-weaker}
 use Rattle.fj_coeff.specs.Field.{Field, IsField}
-use Rattle.fj_theory.specs.Ideal.{ArePolynomials, Equal, Member}
+use Rattle.fj_theory.specs.Ideal.{ArePolynomials, SameIdeal, Member}
 use Rattle.fj_theory.specs.MonomialOrder.{IsMonomialOrder, grevlex_key}
 use Rattle.fj_theory.specs.Polynomial.{Polynomial, IsPolynomial}
 use Rattle.fj_theory.specs.ReducedBasis.{IsReducedBasis}
-use Rattle.fj_theory.proofs.Ideal.{Equal-refl, Equal-sym}
+use Rattle.fj_theory.proofs.Ideal.{SameIdeal-refl, SameIdeal-sym}
 use Rattle.fj_theory.proofs.IdealBridge.{Member_polynomial}
 use Rattle.fj_theory.proofs.Keys.{elim_key-IsMonomialOrder, grevlex_key-IsMonomialOrder, grlex_key-IsMonomialOrder, lex_key-IsMonomialOrder}
 use Rattle.fj_theory.proofs.ReducedBasis.{IsReducedBasis-same_ideal}
@@ -36,7 +36,7 @@ key_of-IsMonomialOrder Grevlex = grevlex_key-IsMonomialOrder
 key_of-IsMonomialOrder Elim = elim_key-IsMonomialOrder
 
 -- A list that generates an ideal holds polynomials where one other list of the ideal does.
-pub polynomials_of_equal : {F : Field} (L : IsField F) {M N : List Polynomial} → ArePolynomials F N → Equal F M N → ArePolynomials F M
+pub polynomials_of_equal : {F : Field} (L : IsField F) {M N : List Polynomial} → ArePolynomials F N → SameIdeal F M N → ArePolynomials F M
 polynomials_of_equal {F} L {M} {N} B E = record { each = All-weaker (Member F N) (IsPolynomial F) (λ g m. Member_polynomial L B m) M E.forth.each }
 
 -- A declared ideal is what `basis` asks for.
@@ -44,7 +44,7 @@ pub declared_for : {F : Field} (L : IsField F) (env : Env) (j : ℕ) {J : WithBa
 declared_for {F} L env j {J} is = record {
   ideal = ideal_at env j;
   asked = refl;
-  same = subst (Equal F (ideal_at env j)) (sym is.given) (Equal-refl L (polynomials_of_list is));
+  same = subst (SameIdeal F (ideal_at env j)) (sym is.given) (SameIdeal-refl L (polynomials_of_list is));
   is_ideal = is.ideal;
 }
 
@@ -63,7 +63,7 @@ module _ (F : Field) (env : Env) (asked : Asked) (question : Question) (is : ask
 
     -- Its reduced basis for an order is that of the list that it was made of.
     basis_of_asked : {key : List ℕ → List ℕ} (K : IsMonomialOrder key) {G : List Polynomial} → IsReducedBasis F key J.given G → IsReducedBasis F key I.ideal G
-    basis_of_asked K B = IsReducedBasis-same_ideal K L I.is_ideal.polynomials (polynomials_of_equal L I.is_ideal.polynomials I.same) (Equal-sym I.same) B
+    basis_of_asked K B = IsReducedBasis-same_ideal K L I.is_ideal.polynomials (polynomials_of_equal L I.is_ideal.polynomials I.same) (SameIdeal-sym I.same) B
 
     -- A stop of the run for the printing order.
     pub print_stop_for : {T : Type 0} (r : Result T Stop) → IfErr r (IsPrintStop F asked.order J.members asked.budget) → IfErr r (IsStopFor F env asked)

@@ -1,7 +1,7 @@
 -- What the calculation of the ideals of a question gives, and why it stops.
 use Rattle.std.specs.Prelude.{◌≡◌, ◌≢◌, ℕ, List, [], ◌∷◌, Contains}
 use Rattle.fj_coeff.specs.Field.{Field}
-use Rattle.fj_theory.specs.Ideal.{Equal}
+use Rattle.fj_theory.specs.Ideal.{SameIdeal}
 use Rattle.fj_theory.specs.Polynomial.{Polynomial, power}
 use Rattle.fj_poly.specs.Limit.{IsHigh}
 use Rattle.fj_plain.specs.declared.order_name.OrderName.{OrderName}
@@ -22,7 +22,7 @@ use Rattle.fj_theory.specs.Plain.{PlainPolynomial}
 pub record IsIdealFor (F : Field) (env : Env) (question : Question) (J : WithBasis) : Type 0 where
   pub ideal : List Polynomial
   pub asked : AsksFor F env question ideal
-  pub same : Equal F ideal J.given
+  pub same : SameIdeal F ideal J.given
   pub is_ideal : IsIdeal F J
 
 -- The answer is the reduced basis of the ideal (L) for the order.

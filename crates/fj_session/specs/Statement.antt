@@ -2,7 +2,7 @@
 use Rattle.std.specs.Prelude.{◌≡◌, ◌≢◌, ◌⊎◌, ◌^◌, List, ◌++◌}
 use Rattle.fj_coeff.specs.Field.{Field}
 use Rattle.fj_theory.specs.FrobeniusPower.{frobenius_power}
-use Rattle.fj_theory.specs.Ideal.{Equal, Member, products}
+use Rattle.fj_theory.specs.Ideal.{SameIdeal, Member, products}
 use Rattle.fj_theory.specs.MonomialOrder.{grevlex_key}
 use Rattle.fj_theory.specs.Polynomial.{Polynomial}
 use Rattle.fj_theory.specs.ReducedBasis.{IsReducedBasis}
@@ -27,13 +27,13 @@ AsksFor F env _ M = ⊥
 -- The question has the answer yes.
 abbrev pub IsTrueOf : Field → Env → Question → Type 0
 IsTrueOf F env (questions.Member f j) = Member F (ideal_at env j) (polynomial_at env f)
-IsTrueOf F env (questions.Same j k) = Equal F (ideal_at env j) (ideal_at env k)
+IsTrueOf F env (questions.Same j k) = SameIdeal F (ideal_at env j) (ideal_at env k)
 IsTrueOf F env _ = ⊥
 
 -- The question has the answer no.
 abbrev pub IsFalseOf : Field → Env → Question → Type 0
 IsFalseOf F env (questions.Member f j) = Member F (ideal_at env j) (polynomial_at env f) → ⊥
-IsFalseOf F env (questions.Same j k) = Equal F (ideal_at env j) (ideal_at env k) → ⊥
+IsFalseOf F env (questions.Same j k) = SameIdeal F (ideal_at env j) (ideal_at env k) → ⊥
 IsFalseOf F env _ = ⊥
 
 -- The lists that the question needs a Grevlex basis of, apart from the one that is printed.

@@ -17,7 +17,7 @@ use Rattle.fj_algebra.proofs.Pairs.{All-from_elements, filter_contains, contains
 use Rattle.fj_theory.specs.Exponents.{IsExponents, divides}
 use Rattle.fj_theory.specs.MonomialOrder.{grevlex_key}
 use Rattle.fj_theory.specs.Polynomial.{Polynomial}
-use Rattle.fj_theory.specs.Ideal.{ArePolynomials, Inside, Equal}
+use Rattle.fj_theory.specs.Ideal.{ArePolynomials, Inside, SameIdeal}
 use Rattle.fj_theory.specs.Lead.{lead_exponents, lead_coefficient}
 use Rattle.fj_theory.specs.ReducedBasis.{LeadDivides, IsReducedBasis}
 use Rattle.fj_theory.proofs.Keys.{grevlex_key-IsMonomialOrder}
@@ -31,7 +31,7 @@ use Rattle.fj_testideal.specs.LeadLaws.{IsBoundedChain, Repeats}
 use Rattle.fj_testideal.proofs.Counting.{at_most_as_many, fewer}
 use Rattle.fj_testideal.proofs.LeadSteps.{LeadOfMember}
 use Rattle.fj_testideal.proofs.MonomialList.{monomials_up_to, length-monomials_up_to, bounded-monomials_up_to, contains-monomials_up_to, distinct-monomials_up_to}
-use Rattle.fj_testideal.proofs.BoundedIdeal.{P, lead_map, IsLeadIn-Inside, Equal-by_leads}
+use Rattle.fj_testideal.proofs.BoundedIdeal.{P, lead_map, IsLeadIn-Inside, SameIdeal-by_leads}
 
 -- The leads are at most as many as the monomials.
 pub AreLeads-few : {F : Field} {vars : Variables} {bound : ℕ} {L : List Polynomial} {leads : List (List ℕ)} → AreLeads F vars bound L leads
@@ -111,15 +111,15 @@ module _ {F : Field} (L : IsField F) where
         (IsLeadIn-Inside L A B inside (All-contains (IsLeadIn F M) leads a few.sound c))
 
     -- The ideals are equal, or the larger has more leads.
-    pub strict_step : Equal F M N ⊎ (length leads < length more)
+    pub strict_step : SameIdeal F M N ⊎ (length leads < length more)
     strict_step = go (compare_numbers (length leads) (length more))
       where
         compare_numbers : (i j : ℕ) → (i < j) ⊎ (j ≤ i)
         compare_numbers i j = grind arith
 
-        go : (length leads < length more) ⊎ (length more ≤ length leads) → Equal F M N ⊎ (length leads < length more)
+        go : (length leads < length more) ⊎ (length more ≤ length leads) → SameIdeal F M N ⊎ (length leads < length more)
         go (inl less) = inr less
-        go (inr same) = inl (Equal-by_leads L A B small large inside
+        go (inr same) = inl (SameIdeal-by_leads L A B small large inside
             (λ a b l. found a (many.complete a b l) (listed leads a)))
           where
             found : (a : List ℕ) → Contains more a → Dec (Contains leads a) → IsLeadIn F M a
@@ -135,7 +135,7 @@ module _ {F : Field} (L : IsField F) where
         (strict_step (C.polynomials m (omega arith)) (C.polynomials (suc m) h) (C.bounded m (omega arith)) (C.bounded (suc m) h) (rises m (omega arith))
         (C.are_leads m (omega arith)) (C.are_leads (suc m) h))
       where
-        go : Repeats F chain m ⊎ (m ≤ length (C.leads m)) → Equal F (chain m) (chain (suc m)) ⊎ (length (C.leads m) < length (C.leads (suc m)))
+        go : Repeats F chain m ⊎ (m ≤ length (C.leads m)) → SameIdeal F (chain m) (chain (suc m)) ⊎ (length (C.leads m) < length (C.leads (suc m)))
             → Repeats F chain (suc m) ⊎ (suc m ≤ length (C.leads (suc m)))
         go (inl found) e = inl (found.0, omega (arith, found.1), found.2)
         go (inr count) (inl equal) = inl (m, omega arith, equal)
@@ -156,7 +156,7 @@ module _ {F : Field} (L : IsField F) where
         (strict_step (C.polynomials (suc m) h) (C.polynomials m (omega arith)) (C.bounded (suc m) h) (C.bounded m (omega arith)) (falls m (omega arith))
         (C.are_leads (suc m) h) (C.are_leads m (omega arith)))
       where
-        go : Repeats F chain m ⊎ (m + length (C.leads m) ≤ length (C.leads 0)) → Equal F (chain (suc m)) (chain m) ⊎ (length (C.leads (suc m)) < length (C.leads m))
+        go : Repeats F chain m ⊎ (m + length (C.leads m) ≤ length (C.leads 0)) → SameIdeal F (chain (suc m)) (chain m) ⊎ (length (C.leads (suc m)) < length (C.leads m))
             → Repeats F chain (suc m) ⊎ (suc m + length (C.leads (suc m)) ≤ length (C.leads 0))
         go (inl found) e = inl (found.0, omega (arith, found.1), found.2)
         go (inr count) (inl equal) = inl (m, omega arith, record { forth = equal.back; back = equal.forth })

@@ -8,7 +8,7 @@ use Rattle.fj_algebra.proofs.Lists.{All-map_back}
 use Rattle.fj_algebra.proofs.Polynomial.{lead_nonzero}
 use Rattle.fj_theory.specs.Exponents.{IsExponents, total}
 use Rattle.fj_theory.specs.Polynomial.{Polynomial, IsPolynomial}
-use Rattle.fj_theory.specs.Ideal.{ArePolynomials, Inside, Equal}
+use Rattle.fj_theory.specs.Ideal.{ArePolynomials, Inside, SameIdeal}
 use Rattle.fj_theory.proofs.Keys.{grevlex_key-IsMonomialOrder}
 use Rattle.fj_theory.proofs.EighthVariable.{grevlex_degree}
 use Rattle.fj_theory.proofs.Field.{Element}
@@ -94,9 +94,9 @@ module _ {F : Field} (L : IsField F) where
 
   module _ {vars : Variables} {bound : ℕ} {M N : List Polynomial} (A : ArePolynomials F M) (B : ArePolynomials F N) where
     -- Nested ideals, both generated in bounded degree, with the same leads of bounded degree are equal.
-    pub Equal-by_leads : IsBoundedIdeal F vars bound M → IsBoundedIdeal F vars bound N → Inside F M N
-        → ((a : List ℕ) → IsBoundedMonomial vars bound a → IsLeadIn F N a → IsLeadIn F M a) → Equal F M N
-    Equal-by_leads small large inside leads =
+    pub SameIdeal-by_leads : IsBoundedIdeal F vars bound M → IsBoundedIdeal F vars bound N → Inside F M N
+        → ((a : List ℕ) → IsBoundedMonomial vars bound a → IsLeadIn F N a → IsLeadIn F M a) → SameIdeal F M N
+    SameIdeal-by_leads small large inside leads =
         let C = ArePolynomials-bounded vars bound small.bounded in
         let D = ArePolynomials-bounded vars bound large.bounded in
         let between = Inside-trans L C B D (Inside-trans L C A B small.generate.forth inside) large.generate.back in

@@ -6,9 +6,9 @@ use Rattle.fj_theory.specs.Exponents.{origin}
 use Rattle.fj_theory.specs.Polynomial.{Polynomial, IsPolynomial, term, degree}
 use Rattle.fj_theory.specs.Ideal.{ArePolynomials}
 use Rattle.fj_theory.specs.Steps.{StepsTo}
-use Rattle.fj_theory.specs.Digits.{value_of, repeated}
+use Rattle.fj_theory.specs.Digits.{value_of, repeated_value}
 use Rattle.fj_theory.proofs.Period.{repeated_last}
-use Rattle.fj_theory.proofs.Ideal.{Equal-sym}
+use Rattle.fj_theory.proofs.Ideal.{SameIdeal-sym}
 use Rattle.fj_testideal.specs.Chain.{FollowsDigits, IsChain}
 use Rattle.fj_testideal.specs.BoundedIdeal.{occurs_in, IsBoundedIdeal}
 use Rattle.fj_testideal.specs.LeadLaws.{chain_at, PeriodsMoveLeads, RepeatsFrom}
@@ -18,11 +18,11 @@ use Rattle.fj_testideal.proofs.BoundedParts.{root_bounded}
 use Rattle.fj_testideal.proofs.BoundedChain.{strict_step, rising_repeats, falling_repeats}
 
 -- a(1 + q + .. + q^(k-1)) is below q^k.
-repeated_below : (q a k : ℕ) → a < q → repeated q a k < q ^ k
-unfolding repeated
+repeated_below : (q a k : ℕ) → a < q → repeated_value q a k < q ^ k
+unfolding repeated_value
 repeated_below q a zero less = let one : q ^ 0 ≡ 1 = pow-zero q in omega arith
 repeated_below q a (suc k) less =
-    let product : q * (repeated q a k + 1) ≤ q * q ^ k = mul-le-mul_left q (omega (arith, repeated_below q a k less)) in
+    let product : q * (repeated_value q a k + 1) ≤ q * q ^ k = mul-le-mul_left q (omega (arith, repeated_below q a k less)) in
     omega (arith, product, repeated_last q a k, pow-suc q k)
 
 -- A run up to a place, the step from it, and a run with one step more.
@@ -46,9 +46,9 @@ module _ {S : Type 0} (Step : S → S → Type 0) where
 module _ {F : Field} (L : IsField F) {f : Polynomial} (A : IsPolynomial F f) {d : ℕ} (of_degree : degree f ≡ Some d)
     (period : List ℕ) (below : All (λ a. a < F.characteristic) period) where
   -- What k periods write is below p^(k b).
-  written_below : (k : ℕ) → repeated (F.characteristic ^ length period) (value_of F.characteristic period) k < F.characteristic ^ (k * length period)
+  written_below : (k : ℕ) → repeated_value (F.characteristic ^ length period) (value_of F.characteristic period) k < F.characteristic ^ (k * length period)
   written_below k =
-      subst (λ n. repeated (F.characteristic ^ length period) (value_of F.characteristic period) k < n) (power_of_power F.characteristic (length period) k)
+      subst (λ n. repeated_value (F.characteristic ^ length period) (value_of F.characteristic period) k < n) (power_of_power F.characteristic (length period) k)
       (repeated_below (F.characteristic ^ length period) (value_of F.characteristic period) k (value_of_below F.characteristic period below))
 
   module _ (lists : List (List Polynomial)) {last : List Polynomial} where
@@ -77,7 +77,7 @@ module _ {F : Field} (L : IsField F) {f : Polynomial} (A : IsPolynomial F f) {d 
         let further = run_push (FollowsDigits F f period) lists _ last next chain follows in
         elim (strict_step L (polynomials_from_one (lists ++ next ∷ []) further) (polynomials_from_one lists chain)
         (bounded_from_one (lists ++ next ∷ []) further) (bounded_from_one lists chain) (chain_falls L A period lists chain follows) few many) [
-          | inl same ↦ inl (Equal-sym same)
+          | inl same ↦ inl (SameIdeal-sym same)
           | inr less ↦ inr less
         ];
   }

@@ -5,9 +5,9 @@ use Rattle.std.proofs.lemmas.Bool.{cases_lt}
 use Rattle.std.proofs.lemmas.Nat.{pow-add}
 use Rattle.std.proofs.Math.Nat.{pow-suc, one-le-pow, mul-le-mul_left, mul-le-mul_right, mul-lt-mul_of_pos_right, le_of_mul-le-mul_right}
 use Rattle.fj_theory.specs.Fraction.{Fraction, compare, ceil_times}
-use Rattle.fj_theory.specs.Digits.{truncation}
+use Rattle.fj_theory.specs.Digits.{ceiling_less_one}
 use Rattle.fj_theory.proofs.Fraction.{ceil_times-IsCeiling, ceil_times-mul, ceil_times-whole, compare-less, less_from_compare}
-use Rattle.fj_theory.proofs.Digits.{product_positive, truncation-IsTruncation, truncation-more}
+use Rattle.fj_theory.proofs.Digits.{product_positive, ceiling_less_one-IsTruncation, ceiling_less_one-more}
 use Rattle.fj_testideal.specs.Jump.{IsBetween}
 
 -- p^e is at least e.
@@ -36,8 +36,8 @@ module _ (t : Fraction) (p e k : ℕ) where
 
   -- ceil(t*p^(e+k)) - 1 is at least p^k*(ceil(t*p^e) - 1).
   pub truncation_rises : 0 < p → 0 < t.numerator → (ceil_times t (p ^ e) - 1) * p ^ k ≤ ceil_times t (p ^ (e + k)) - 1
-  unfolding truncation
-  truncation_rises positive above = omega (arith, truncation-more p t e k positive above)
+  unfolding ceiling_less_one
+  truncation_rises positive above = omega (arith, ceiling_less_one-more p t e k positive above)
 
 -- For s below t, ceil(s*q) is at most ceil(t*q) - 1 once q is at least the product of the denominators.
 pub ceiling_below : (s t : Fraction) (q : ℕ) → compare s t ≡ Less → s.denominator * t.denominator ≤ q → ceil_times s q ≤ ceil_times t q - 1
@@ -78,8 +78,8 @@ module _ (t : Fraction) (p e : ℕ) (positive : 0 < p) (above : 0 < t.numerator)
   just_below = record { numerator = ceil_times t (p ^ e) - 1; denominator = p ^ e; positive = one-le-pow e p positive }
 
   pub just_below-less : compare just_below t ≡ Less
-  unfolding truncation
-  just_below-less = compare-less just_below t (truncation-IsTruncation p t e positive above).below
+  unfolding ceiling_less_one
+  just_below-less = compare-less just_below t (ceiling_less_one-IsTruncation p t e positive above).below
 
   pub ceil_times-just_below : (k : ℕ) → ceil_times just_below (p ^ (e + k)) ≡ (ceil_times t (p ^ e) - 1) * p ^ k
   ceil_times-just_below k =

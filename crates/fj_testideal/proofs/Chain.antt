@@ -6,14 +6,14 @@ use Rattle.std.proofs.lemmas.List.Elements.{All-head, All-tail}
 use Rattle.fj_coeff.specs.Field.{Field, IsField}
 use Rattle.fj_theory.specs.Exponents.{origin}
 use Rattle.fj_theory.specs.Polynomial.{Polynomial, IsPolynomial, power, product, term}
-use Rattle.fj_theory.specs.Ideal.{ArePolynomials, Equal, multiples}
+use Rattle.fj_theory.specs.Ideal.{ArePolynomials, SameIdeal, multiples}
 use Rattle.fj_theory.specs.Root.{IsRoot}
-use Rattle.fj_theory.specs.Digits.{value_of, repeated}
+use Rattle.fj_theory.specs.Digits.{value_of, repeated_value}
 use Rattle.fj_theory.proofs.Digits.{value_of-cons}
 use Rattle.fj_theory.proofs.IdealBridge.{ArePolynomials-head, ArePolynomials-tail, IsPolynomial-one}
-use Rattle.fj_theory.proofs.Ideal.{ArePolynomials-multiples, Equal-sym, Equal-trans, Equal-refl, Equal-multiples}
+use Rattle.fj_theory.proofs.Ideal.{ArePolynomials-multiples, SameIdeal-sym, SameIdeal-trans, SameIdeal-refl, SameIdeal-multiples}
 use Rattle.fj_theory.proofs.PolynomialRing.{IsPolynomial-power, product_comm, product_one, power_zero, power_first, power_add}
-use Rattle.fj_theory.proofs.Root.{IsRoot-1, IsRoot-unique, IsRoot-Equal, IsRoot-Equal_root}
+use Rattle.fj_theory.proofs.Root.{IsRoot-1, IsRoot-unique, IsRoot-SameIdeal, IsRoot-SameIdeal_root}
 use Rattle.fj_theory.proofs.RootParts.{IsRoot-digit}
 use Rattle.fj_testideal.specs.Chain.{FollowsDigits, IsChain, IsLimit}
 
@@ -68,50 +68,50 @@ module _ {F : Field} (L : IsField F) {f : Polynomial} (A : IsPolynomial F f) whe
   ArePolynomials-FollowsDigits ds P follows = (FollowsDigits-root ds P follows).polynomials
 
   -- Steps with the same digits lead from equal ideals to equal ideals.
-  pub FollowsDigits-Equal : (ds : List ℕ) {J J' N N' : List Polynomial} → ArePolynomials F J → ArePolynomials F J' → Equal F J J'
-      → FollowsDigits F f ds J N → FollowsDigits F f ds J' N' → Equal F N N'
-  FollowsDigits-Equal ds P P' E follows follows' =
+  pub FollowsDigits-SameIdeal : (ds : List ℕ) {J J' N N' : List Polynomial} → ArePolynomials F J → ArePolynomials F J' → SameIdeal F J J'
+      → FollowsDigits F f ds J N → FollowsDigits F f ds J' N' → SameIdeal F N N'
+  FollowsDigits-SameIdeal ds P P' E follows follows' =
       let B = IsPolynomial-power L A (value_of F.characteristic ds) in
       IsRoot-unique
-      (IsRoot-Equal L (ArePolynomials-multiples L B P) (ArePolynomials-multiples L B P') (Equal-multiples L B P P' E) (FollowsDigits-root ds P follows))
+      (IsRoot-SameIdeal L (ArePolynomials-multiples L B P) (ArePolynomials-multiples L B P') (SameIdeal-multiples L B P P' E) (FollowsDigits-root ds P follows))
       (FollowsDigits-root ds P' follows')
 
   module _ (ds : List ℕ) where
     -- A chain is constant from a repeat on.
-    repeats_stay_from : {J next : List Polynomial} → ArePolynomials F J → FollowsDigits F f ds J next → Equal F J next
-        → (lists : List (List Polynomial)) {first last : List Polynomial} → ArePolynomials F first → Equal F J first → IsChain F f ds first lists last → Equal F J last
-    repeats_stay_from {J} P follows E [] Q G chain = subst (Equal F J) chain G
+    repeats_stay_from : {J next : List Polynomial} → ArePolynomials F J → FollowsDigits F f ds J next → SameIdeal F J next
+        → (lists : List (List Polynomial)) {first last : List Polynomial} → ArePolynomials F first → SameIdeal F J first → IsChain F f ds first lists last → SameIdeal F J last
+    repeats_stay_from {J} P follows E [] Q G chain = subst (SameIdeal F J) chain G
     repeats_stay_from {J} {next} P follows E (second ∷ lists) Q G chain =
         let R = ArePolynomials-FollowsDigits ds Q chain.0 in
         repeats_stay_from P follows E lists R
-        (Equal-trans L P (ArePolynomials-FollowsDigits ds P follows) R E (FollowsDigits-Equal ds P Q G follows chain.0)) chain.1
+        (SameIdeal-trans L P (ArePolynomials-FollowsDigits ds P follows) R E (FollowsDigits-SameIdeal ds P Q G follows chain.0)) chain.1
 
-    pub repeats_stay : {J next : List Polynomial} → ArePolynomials F J → FollowsDigits F f ds J next → Equal F J next
-        → (lists : List (List Polynomial)) {last : List Polynomial} → IsChain F f ds J lists last → Equal F J last
-    repeats_stay P follows E lists chain = repeats_stay_from P follows E lists P (Equal-refl L P) chain
+    pub repeats_stay : {J next : List Polynomial} → ArePolynomials F J → FollowsDigits F f ds J next → SameIdeal F J next
+        → (lists : List (List Polynomial)) {last : List Polynomial} → IsChain F f ds J lists last → SameIdeal F J last
+    repeats_stay P follows E lists chain = repeats_stay_from P follows E lists P (SameIdeal-refl L P) chain
 
   -- The chain of a period of b digits that write a, from S: after k periods it is at the root of f^(a(1 + .. + p^((k-1)b))) S
   -- at k b.
   module _ (ds : List ℕ) {S : List Polynomial} (P : ArePolynomials F S) where
     -- N is where the chain is after k periods.
     abbrev pub IsAfter : ℕ → List Polynomial → Type 0
-    IsAfter k N = IsMultipleRoot F f S (k * length ds) (repeated (F.characteristic ^ length ds) (value_of F.characteristic ds) k) N
+    IsAfter k N = IsMultipleRoot F f S (k * length ds) (repeated_value (F.characteristic ^ length ds) (value_of F.characteristic ds) k) N
 
     pub IsAfter-zero : IsAfter 0 S
-    unfolding repeated
+    unfolding repeated_value
     IsAfter-zero = let none : 0 * length ds ≡ 0 = omega arith in subst (λ e. IsMultipleRoot F f S e 0 S) (sym none) (IsMultipleRoot-zero P)
 
     pub IsAfter-next : (k : ℕ) {J N : List Polynomial} → IsAfter k J → FollowsDigits F f ds J N → IsAfter (suc k) N
-    unfolding repeated
+    unfolding repeated_value
     IsAfter-next k {J} {N} R follows =
         let p = F.characteristic in
         let b = length ds in
         let a = value_of p ds in
         let place : b + k * b ≡ suc k * b = omega arith in
-        let number : a * p ^ (k * b) + repeated (p ^ b) a k ≡ repeated (p ^ b) a (suc k) = omega (arith, ap (λ n. n * a) (power_of_power p b k)) in
-        subst (λ e. IsMultipleRoot F f S e (repeated (p ^ b) a (suc k)) N) place
+        let number : a * p ^ (k * b) + repeated_value (p ^ b) a k ≡ repeated_value (p ^ b) a (suc k) = omega (arith, ap (λ n. n * a) (power_of_power p b k)) in
+        subst (λ e. IsMultipleRoot F f S e (repeated_value (p ^ b) a (suc k)) N) place
         (subst (λ m. IsMultipleRoot F f S (b + k * b) m N) number
-        (IsRoot-digit L b (k * b) A (repeated (p ^ b) a k) a P R (FollowsDigits-root ds R.polynomials follows)))
+        (IsRoot-digit L b (k * b) A (repeated_value (p ^ b) a k) a P R (FollowsDigits-root ds R.polynomials follows)))
 
     pub IsAfter-chain : (k : ℕ) (lists : List (List Polynomial)) {first last : List Polynomial} → IsAfter k first → IsChain F f ds first lists last → IsAfter (k + length lists) last
     IsAfter-chain k [] {last = last} R chain = let place : k ≡ k + 0 = omega arith in subst (λ k. IsAfter k last) place (subst (IsAfter k) chain R)
@@ -120,14 +120,14 @@ module _ {F : Field} (L : IsField F) {f : Polynomial} (A : IsPolynomial F f) whe
         subst (λ k. IsAfter k last) place (IsAfter-chain (suc k) lists (IsAfter-next k R chain.0) chain.1)
 
     -- Where the next list is the same ideal, the chain is there after every further period.
-    pub IsAfter-stays : (k i : ℕ) {J N : List Polynomial} → IsAfter k J → FollowsDigits F f ds J N → Equal F J N → IsAfter (i + k) J
+    pub IsAfter-stays : (k i : ℕ) {J N : List Polynomial} → IsAfter k J → FollowsDigits F f ds J N → SameIdeal F J N → IsAfter (i + k) J
     IsAfter-stays k zero {J} R follows E = let place : k ≡ 0 + k = omega arith in subst (λ k. IsAfter k J) place R
     IsAfter-stays k (suc i) {J} R follows E =
         let T = IsAfter-next (i + k) (IsAfter-stays k i R follows E) follows in
         let p = F.characteristic in
         let place : suc (i + k) ≡ suc i + k = omega arith in
         subst (λ k. IsAfter k J) place
-        (IsRoot-Equal_root L (suc (i + k) * length ds) (ArePolynomials-multiples L (IsPolynomial-power L A _) P) T R.polynomials (Equal-sym E))
+        (IsRoot-SameIdeal_root L (suc (i + k) * length ds) (ArePolynomials-multiples L (IsPolynomial-power L A _) P) T R.polynomials (SameIdeal-sym E))
 
     pub IsAfter-start : (lists : List (List Polynomial)) {last : List Polynomial} → IsChain F f ds S lists last → IsAfter (length lists) last
     IsAfter-start lists {last} chain = let place : 0 + length lists ≡ length lists = omega arith in subst (λ k. IsAfter k last) place (IsAfter-chain 0 lists IsAfter-zero chain)

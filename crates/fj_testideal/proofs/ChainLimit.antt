@@ -7,7 +7,7 @@ use Rattle.fj_theory.specs.Polynomial.{Polynomial, IsPolynomial, term}
 use Rattle.fj_theory.specs.Ideal.{ArePolynomials, Inside}
 use Rattle.fj_theory.specs.Fraction.{Fraction, IsInUnitInterval, ceil_times}
 use Rattle.fj_theory.specs.Root.{IsRoot}
-use Rattle.fj_theory.specs.Digits.{value_of, repeated, Expansion, IsExpansion}
+use Rattle.fj_theory.specs.Digits.{value_of, repeated_value, Expansion, IsExpansion}
 use Rattle.fj_theory.proofs.Period.{repeated_last}
 use Rattle.fj_theory.proofs.Field.{characteristic_large}
 use Rattle.fj_theory.proofs.Frobenius.{power_positive}
@@ -37,10 +37,10 @@ module _ {F : Field} (L : IsField F) {f : Polynomial} (A : IsPolynomial F f) whe
 
   module _ (period : List ℕ) (lists : List (List Polynomial)) {last : List Polynomial} where
     -- Where the chains from (f) and from (1) are.
-    pub chain_root_from_f : IsChain F f period (f ∷ []) lists last → IsPowerRoot F f (length lists * length period) (repeated (F.characteristic ^ length period) (value_of F.characteristic period) (length lists) + 1) last
+    pub chain_root_from_f : IsChain F f period (f ∷ []) lists last → IsPowerRoot F f (length lists * length period) (repeated_value (F.characteristic ^ length period) (value_of F.characteristic period) (length lists) + 1) last
     chain_root_from_f chain = from_self (length lists * length period) _ (IsAfter-start L A period own lists chain)
 
-    pub chain_root_from_one : IsChain F f period (term 1 origin ∷ []) lists last → IsPowerRoot F f (length lists * length period) (repeated (F.characteristic ^ length period) (value_of F.characteristic period) (length lists)) last
+    pub chain_root_from_one : IsChain F f period (term 1 origin ∷ []) lists last → IsPowerRoot F f (length lists * length period) (repeated_value (F.characteristic ^ length period) (value_of F.characteristic period) (length lists)) last
     chain_root_from_one chain = from_unit (length lists * length period) _ (IsAfter-start L A period unit lists chain)
 
     -- The chain from (f) rises, and the chain from (1) falls.
@@ -53,8 +53,8 @@ module _ {F : Field} (L : IsField F) {f : Polynomial} (A : IsPolynomial F f) whe
         let R = IsAfter-start L A period own lists chain in
         let S = IsAfter-next L A period own k R follows in
         let place : suc k * b ≡ k * b + b = omega arith in
-        let T = subst (λ e. IsPowerRoot F f e (repeated (p ^ b) a (suc k) + 1) next) place (from_self (suc k * b) _ S) in
-        power_root-rises_across L A (k * b) b (repeated (p ^ b) a k + 1) _ (from_self (k * b) _ R) T
+        let T = subst (λ e. IsPowerRoot F f e (repeated_value (p ^ b) a (suc k) + 1) next) place (from_self (suc k * b) _ S) in
+        power_root-rises_across L A (k * b) b (repeated_value (p ^ b) a k + 1) _ (from_self (k * b) _ R) T
         (omega (arith, repeated_last (p ^ b) a k, value_of_below p period below))
 
     pub chain_falls : {next : List Polynomial} → IsChain F f period (term 1 origin ∷ []) lists last → FollowsDigits F f period last next → Inside F next last
@@ -66,14 +66,14 @@ module _ {F : Field} (L : IsField F) {f : Polynomial} (A : IsPolynomial F f) whe
         let R = IsAfter-start L A period unit lists chain in
         let S = IsAfter-next L A period unit k R follows in
         let place : suc k * b ≡ k * b + b = omega arith in
-        let T = subst (λ e. IsPowerRoot F f e (repeated (p ^ b) a (suc k)) next) place (from_unit (suc k * b) _ S) in
-        power_root-falls_across L A (k * b) b (repeated (p ^ b) a k) _ (from_unit (k * b) _ R) T (omega (arith, repeated_last (p ^ b) a k))
+        let T = subst (λ e. IsPowerRoot F f e (repeated_value (p ^ b) a (suc k)) next) place (from_unit (suc k * b) _ S) in
+        power_root-falls_across L A (k * b) b (repeated_value (p ^ b) a k) _ (from_unit (k * b) _ R) T (omega (arith, repeated_last (p ^ b) a k))
 
   -- The digits of t, as far as the chains need them: pre is c digits that write N, and ceil(t*p^(c+kb)) - 1 is N, written
   -- before k periods.
   module _ (t : Fraction) (above : 0 < t.numerator) (pre period : List ℕ) (some : 0 < length period)
       (number : (k : ℕ) → ceil_times t (F.characteristic ^ (length pre + k * length period)) - 1
-      ≡ value_of F.characteristic pre * F.characteristic ^ (k * length period) + repeated (F.characteristic ^ length period) (value_of F.characteristic period) k) where
+      ≡ value_of F.characteristic pre * F.characteristic ^ (k * length period) + repeated_value (F.characteristic ^ length period) (value_of F.characteristic period) k) where
     place : ℕ → ℕ
     place k = length pre + k * length period
 

@@ -4,12 +4,11 @@ use Rattle.std.specs.declared.cmp.Ordering.TheVariants.{Less}
 use Rattle.std.proofs.Math.Nat.{mul-le-mul_right, mul-lt-mul_of_pos_right, lt_of_mul-lt-mul_right}
 use Rattle.fj_coeff.specs.Field.{Field, IsField}
 use Rattle.fj_theory.specs.Polynomial.{Polynomial, IsPolynomial}
-use Rattle.fj_theory.specs.Fraction.{Fraction, compare}
+use Rattle.fj_theory.specs.Fraction.{IsAtMost, Fraction, compare}
 use Rattle.fj_theory.proofs.Fraction.{ceil_times-le, compare-less, less_from_compare}
 use Rattle.fj_theory.proofs.Field.{characteristic_large}
-use Rattle.fj_theory.proofs.Ideal.{Equal-refl}
+use Rattle.fj_theory.proofs.Ideal.{SameIdeal-refl}
 use Rattle.fj_testideal.specs.TestIdeal.{IsTestIdeal, IsLeftLimit}
-use Rattle.fj_testideal.specs.TestIdealLaws.{IsAtMost}
 use Rattle.fj_testideal.specs.Jump.{IsJump, IsConstant}
 use Rattle.fj_testideal.proofs.Ceiling.{power_large, ceiling_below}
 use Rattle.fj_testideal.proofs.PowerRoot.{power_root-squeezed}
@@ -66,4 +65,4 @@ module _ {F : Field} (L : IsField F) {f : Polynomial} (A : IsPolynomial F f) (s 
   pub no_jump-inside_constant : (r : Fraction) → compare s r ≡ Less → compare r t ≡ Less → IsJump F f r → ⊥
   no_jump-inside_constant r above below jump =
       jump_differs L A r (above_zero_from_less s r above) (left_limit-inside_constant r above (at_most_from_less r t below)) (test_ideal-inside_constant r (at_most_from_less s r above) below) jump
-      (Equal-refl L (ArePolynomials-IsTestIdeal C.at_start))
+      (SameIdeal-refl L (ArePolynomials-IsTestIdeal C.at_start))

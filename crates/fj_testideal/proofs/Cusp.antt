@@ -9,18 +9,18 @@ use Rattle.fj_theory.specs.Polynomial.{Polynomial, IsPolynomial, sum, product, p
 use Rattle.fj_theory.specs.Ideal.{ArePolynomials, Member, multiples}
 use Rattle.fj_theory.specs.FrobeniusPower.{frobenius_power}
 use Rattle.fj_theory.specs.Fraction.{IsInUnitInterval, ceil_times}
-use Rattle.fj_theory.specs.Digits.{truncation, digit, digits, IsExpansion}
+use Rattle.fj_theory.specs.Digits.{ceiling_less_one, digit, digits, IsExpansion}
 use Rattle.fj_theory.specs.Exponents.{origin}
 use Rattle.fj_theory.specs.Evaluation.{IsPoint, IsZeroOf, monomial_value, value as polynomial_value}
 use Rattle.fj_theory.specs.MonomialOrder.{lex_key}
 use Rattle.fj_theory.specs.Root.{IsRoot}
 use Rattle.fj_theory.proofs.PolynomialRing.{sum_empty, power_suc, product_one, product_comm, IsPolynomial-power}
 use Rattle.fj_theory.proofs.IdealBridge.{ArePolynomials-cons, ArePolynomials-single}
-use Rattle.fj_theory.proofs.Ideal.{Equal-refl, Member-product, Member-all, Member-Contains, Inside-cons, Inside-single, Inside-head, Inside-Contains}
+use Rattle.fj_theory.proofs.Ideal.{SameIdeal-refl, Member-product, Member-all, Member-Contains, Inside-cons, Inside-single, Inside-head, Inside-Contains}
 use Rattle.fj_theory.proofs.Evaluation.{value-term, value-one, Member-IsZeroOf}
 use Rattle.fj_theory.proofs.FrobeniusPower.{ArePolynomials-frobenius_power}
 use Rattle.fj_theory.proofs.Product.{IsPolynomial-product}
-use Rattle.fj_theory.proofs.Root.{IsRoot-Equal_root}
+use Rattle.fj_theory.proofs.Root.{IsRoot-SameIdeal_root}
 use Rattle.fj_theory.proofs.RootParts.{IsRoot-frobenius_power, IsRoot-one}
 use Rattle.fj_testideal.specs.Chain.{IsStep, IsLimit}
 use Rattle.fj_testideal.specs.Examples.{xy, cusp, four_fifths, IsCuspOverFive}
@@ -115,7 +115,7 @@ root_fourth =
     let Q = root_fourth_parts.polynomials in
     let y = Member-Contains L P {g = xy 0 1} (0, lit< tt, refl) in
     let x = Member-Contains L P {g = xy 1 0} (1, lit< tt, refl) in
-    IsRoot-Equal_root L 1 (ArePolynomials-single (power_is 4)) root_fourth_parts P (record {
+    IsRoot-SameIdeal_root L 1 (ArePolynomials-single (power_is 4)) root_fourth_parts P (record {
       forth = Inside-cons (item_member P (0, 1, 1) (0, 1, 1) y)
           (Inside-cons (item_member P (0, 0, 4) (1, 0, 1) x) (Inside-cons (item_member P (0, 0, 4) (0, 1, 1) y) (Inside-cons x (Inside-single y))));
       back = Inside-cons (Member-Contains L Q {g = xy 0 1} (4, lit< tt, refl)) (Inside-single (Member-Contains L Q {g = xy 1 0} (3, lit< tt, refl)));
@@ -182,7 +182,7 @@ one_outside H =
 
 -- The digits of 4/5.
 expansion : IsExpansion 5 four_fifths (record { prime = 5; pre = 3 ∷ []; period = 4 ∷ [] })
-unfolding digits digit truncation ceil_times
+unfolding digits digit ceiling_less_one ceil_times
 expansion = record {
   prime = refl;
   lowest = IsGcd-from_mod 4 5 1 (IsGcd-from_mod 5 4 1 (IsGcd-from_mod 4 1 1 (IsGcd-from_zero 1 0 refl)));
@@ -202,9 +202,9 @@ unfolding term origin
 cusp_over_five =
     let interval : IsInUnitInterval four_fifths = record { above_zero = lit< tt; at_most_one = lit< tt } in
     let limit_from_f : IsLimit (prime_field 5) cusp (4 ∷ []) (cusp ∷ []) (cusp ∷ []) =
-    record { lists = []; chain = refl; next = cusp ∷ []; follows = (cusp ∷ [], refl, step_from_f); repeats = Equal-refl L (ArePolynomials-single A) } in
+    record { lists = []; chain = refl; next = cusp ∷ []; follows = (cusp ∷ [], refl, step_from_f); repeats = SameIdeal-refl L (ArePolynomials-single A) } in
     let limit_from_one : IsLimit (prime_field 5) cusp (4 ∷ []) unit yx =
-    record { lists = yx ∷ []; chain = ((unit, refl, first_from_one), refl); next = yx; follows = (yx, refl, step_from_yx); repeats = Equal-refl L yx_polynomials } in
+    record { lists = yx ∷ []; chain = ((unit, refl, first_from_one), refl); next = yx; follows = (yx, refl, step_from_yx); repeats = SameIdeal-refl L yx_polynomials } in
     let test_ideal = test_ideal-from_digits L A four_fifths interval _ expansion limit_from_f (cusp ∷ [], refl, last_from_f) in
     let left_limit = left_limit-from_digits L A four_fifths interval _ expansion limit_from_one (yx, refl, last_from_yx) in
     record {

@@ -3,7 +3,7 @@ use Rattle.std.proofs.Common.{[], ◌∷◌, refl, arith, lit<}
 use Rattle.fj_coeff.specs.Field.{Field, IsField}
 use Rattle.fj_theory.specs.Exponents.{IsExponents}
 use Rattle.fj_theory.specs.Polynomial.{IsPolynomial}
-use Rattle.fj_theory.specs.Ideal.{Equal}
+use Rattle.fj_theory.specs.Ideal.{SameIdeal}
 use Rattle.fj_theory.specs.Fraction.{ceil_times}
 use Rattle.fj_theory.proofs.Field.{one_below}
 use Rattle.fj_theory.proofs.Polynomial.{IsPolynomial-term}
@@ -27,7 +27,7 @@ module _ {F : Field} (L : IsField F) where
   second = IsPolynomial-term 1 (one_below L) (record { eight = refl })
 
   -- (x) isn't (x^2).
-  apart : Equal F (x 1 ∷ []) (x 2 ∷ []) → ⊥
+  apart : SameIdeal F (x 1 ∷ []) (x 2 ∷ []) → ⊥
   apart E =
       let less = degree-Member L second (degree-term F 1 (omega arith) (one_below L) (record { eight = refl })) (degree-term F 1 (omega arith) (one_below L) (record { eight = refl })) (Inside-head E.forth) in
       omega (arith, less)

@@ -5,17 +5,17 @@ use Rattle.std.proofs.lemmas.Nat.{pow-add}
 use Rattle.std.proofs.Math.Nat.{mul-le-mul_right}
 use Rattle.fj_coeff.specs.Field.{Field, IsField}
 use Rattle.fj_theory.specs.Polynomial.{Polynomial, IsPolynomial, power, degree}
-use Rattle.fj_theory.specs.Ideal.{ArePolynomials, Member, Equal}
+use Rattle.fj_theory.specs.Ideal.{ArePolynomials, Member, SameIdeal}
 use Rattle.fj_theory.specs.Fraction.{Fraction, compare, ceil_times}
-use Rattle.fj_theory.specs.Digits.{truncation}
+use Rattle.fj_theory.specs.Digits.{ceiling_less_one}
 use Rattle.fj_theory.proofs.Fraction.{ceil_times-IsCeiling, ceil_times-whole, less_from_compare}
-use Rattle.fj_theory.proofs.Digits.{truncation-IsTruncation}
+use Rattle.fj_theory.proofs.Digits.{ceiling_less_one-IsTruncation}
 use Rattle.fj_theory.proofs.Field.{characteristic_large}
 use Rattle.fj_theory.proofs.PolynomialRing.{IsPolynomial-power}
 use Rattle.fj_theory.proofs.Degree.{degree-power}
 use Rattle.fj_theory.proofs.Frobenius.{power_positive}
 use Rattle.fj_theory.proofs.IdealBridge.{ArePolynomials-single}
-use Rattle.fj_theory.proofs.Ideal.{Equal-sym, Equal-trans, Inside-head}
+use Rattle.fj_theory.proofs.Ideal.{SameIdeal-sym, SameIdeal-trans, Inside-head}
 use Rattle.fj_theory.proofs.Root.{IsRoot-unique}
 use Rattle.fj_theory.proofs.RootParts.{IsRoot-frobenius_power}
 use Rattle.fj_testideal.specs.TestIdeal.{IsTestIdeal, IsLeftLimit}
@@ -24,7 +24,7 @@ use Rattle.fj_testideal.specs.JumpLaws.{HoldsChange}
 use Rattle.fj_testideal.proofs.Ceiling.{power_large, ceiling_below, between_low, between_high, just_below, just_below-less, ceil_times-just_below}
 use Rattle.fj_testideal.proofs.Degrees.{degree-Member}
 use Rattle.fj_testideal.proofs.PowerRoot.{IsPowerRoot, power_root-scaled, power_root-unscaled, power_root-squeezed}
-use Rattle.fj_testideal.proofs.TestIdeal.{IsTestIdeal-unique, IsLeftLimit-unique, IsTestIdeal-Equal, IsLeftLimit-Equal, left_limit-inside, test_ideal-inside}
+use Rattle.fj_testideal.proofs.TestIdeal.{IsTestIdeal-unique, IsLeftLimit-unique, IsTestIdeal-SameIdeal, IsLeftLimit-SameIdeal, left_limit-inside, test_ideal-inside}
 
 -- The lists of a test ideal are polynomials.
 pub ArePolynomials-IsTestIdeal : {F : Field} {f : Polynomial} {t : Fraction} {T : List Polynomial} → IsTestIdeal F f t T → ArePolynomials F T
@@ -53,15 +53,15 @@ module _ {F : Field} (L : IsField F) {f : Polynomial} (A : IsPolynomial F f) whe
       }
 
   module _ (t : Fraction) (above : 0 < t.numerator) {S T : List Polynomial} (I : IsLeftLimit F f t S) (J : IsTestIdeal F f t T) where
-    pub jump_differs : IsJump F f t → Equal F S T → ⊥
+    pub jump_differs : IsJump F f t → SameIdeal F S T → ⊥
     jump_differs jump E =
         let positive : 0 < F.characteristic = omega (arith, characteristic_large L) in
         let P = ArePolynomials-IsTestIdeal jump.is_test_ideal in
-        let same : Equal F S jump.ideal = Equal-trans L (I.root I.start (omega arith)).polynomials (ArePolynomials-IsTestIdeal J) P E (IsTestIdeal-unique J jump.is_test_ideal) in
+        let same : SameIdeal F S jump.ideal = SameIdeal-trans L (I.root I.start (omega arith)).polynomials (ArePolynomials-IsTestIdeal J) P E (IsTestIdeal-unique J jump.is_test_ideal) in
         let s = just_below t F.characteristic I.start positive above in
-        jump.is_new s (just_below-less t F.characteristic I.start positive above) (IsTestIdeal-Equal L A s (left_limit-attained t above I) P same)
+        jump.is_new s (just_below-less t F.characteristic I.start positive above) (IsTestIdeal-SameIdeal L A s (left_limit-attained t above I) P same)
 
-    pub jump_from_difference : (Equal F S T → ⊥) → IsJump F f t
+    pub jump_from_difference : (SameIdeal F S T → ⊥) → IsJump F f t
     jump_from_difference differ = record {
       above_zero = above;
       ideal = T;
@@ -71,19 +71,19 @@ module _ {F : Field} (L : IsField F) {f : Polynomial} (A : IsPolynomial F f) whe
 
   module _ (s t : Fraction) (less : compare s t ≡ Less) where
     -- The number (ceil(t*q) - 1)/q is in [s, t) for every large q.
-    pub truncation-IsBetween : (e : ℕ) → s.denominator * t.denominator ≤ e → IsBetween s t (ceil_times t (F.characteristic ^ e) - 1) (F.characteristic ^ e)
-    unfolding truncation
-    truncation-IsBetween e large =
+    pub ceiling_less_one-IsBetween : (e : ℕ) → s.denominator * t.denominator ≤ e → IsBetween s t (ceil_times t (F.characteristic ^ e) - 1) (F.characteristic ^ e)
+    unfolding ceiling_less_one
+    ceiling_less_one-IsBetween e large =
         let q : ℕ = F.characteristic ^ e in
         let low : ceil_times s q ≤ ceil_times t q - 1 = ceiling_below s t q less (omega (arith, power_large F.characteristic e (characteristic_large L))) in
         let product : ceil_times s q * s.denominator ≤ (ceil_times t q - 1) * s.denominator = mul-le-mul_right s.denominator low in
         record {
           from = omega (arith, (ceil_times-IsCeiling s q).enough);
-          below = (truncation-IsTruncation F.characteristic t e (omega (arith, characteristic_large L)) (above_zero_from_less s t less)).below;
+          below = (ceiling_less_one-IsTruncation F.characteristic t e (omega (arith, characteristic_large L)) (above_zero_from_less s t less)).below;
         }
 
     pub left_limit_from_constant : (C : IsConstant F f s t) → IsLeftLimit F f t C.ideal
-    left_limit_from_constant C = record { start = s.denominator * t.denominator; root = λ e h. C.between e _ (truncation-IsBetween e h) }
+    left_limit_from_constant C = record { start = s.denominator * t.denominator; root = λ e h. C.between e _ (ceiling_less_one-IsBetween e h) }
 
     pub constant_from_ends : {T : List Polynomial} → IsTestIdeal F f s T → IsLeftLimit F f t T → IsConstant F f s t
     constant_from_ends {T} I J = record {
@@ -98,12 +98,12 @@ module _ {F : Field} (L : IsField F) {f : Polynomial} (A : IsPolynomial F f) whe
           power_root-unscaled L A e k m (power_root-squeezed L A (e + k) low high (I.root (e + k) (omega arith)) (J.root (e + k) (omega arith)));
     }
 
-    pub constant_from_equal : {S T : List Polynomial} → IsTestIdeal F f s S → IsLeftLimit F f t T → Equal F S T → IsConstant F f s t
-    constant_from_equal I J E = constant_from_ends I (IsLeftLimit-Equal L A t J (ArePolynomials-IsTestIdeal I) (Equal-sym E))
+    pub constant_from_equal : {S T : List Polynomial} → IsTestIdeal F f s S → IsLeftLimit F f t T → SameIdeal F S T → IsConstant F f s t
+    constant_from_equal I J E = constant_from_ends I (IsLeftLimit-SameIdeal L A t J (ArePolynomials-IsTestIdeal I) (SameIdeal-sym E))
 
-    pub equal_from_constant : {S T : List Polynomial} → IsTestIdeal F f s S → IsLeftLimit F f t T → IsConstant F f s t → Equal F S T
+    pub equal_from_constant : {S T : List Polynomial} → IsTestIdeal F f s S → IsLeftLimit F f t T → IsConstant F f s t → SameIdeal F S T
     equal_from_constant I J C =
-        Equal-trans L (ArePolynomials-IsTestIdeal I) (ArePolynomials-IsTestIdeal C.at_start) (J.root J.start (omega arith)).polynomials
+        SameIdeal-trans L (ArePolynomials-IsTestIdeal I) (ArePolynomials-IsTestIdeal C.at_start) (J.root J.start (omega arith)).polynomials
         (IsTestIdeal-unique I C.at_start) (IsLeftLimit-unique (left_limit_from_constant C) J)
 
     -- Where tau isn't constant, the number just below t shows it.
@@ -113,7 +113,7 @@ module _ {F : Field} (L : IsField F) {f : Polynomial} (A : IsPolynomial F f) whe
         record {
           e = e;
           m = ceil_times t (F.characteristic ^ e) - 1;
-          between = truncation-IsBetween e (omega arith);
+          between = ceiling_less_one-IsBetween e (omega arith);
           differs = λ R. is_open (constant_from_equal I J (IsRoot-unique R (J.root e (omega arith))));
         }
 

@@ -10,7 +10,7 @@ use Rattle.fj_testideal.specs.TestIdeal.{IsTestIdeal, IsLeftLimit}
 use Rattle.fj_testideal.specs.TestIdealLaws.{IsTestIdealJustBelow}
 use Rattle.fj_testideal.proofs.Ceiling.{power_large, ceiling_below, just_below, just_below-less}
 use Rattle.fj_testideal.proofs.PowerRoot.{IsPowerRoot, power_root-scaled, power_root-unscaled, power_root-squeezed}
-use Rattle.fj_testideal.proofs.Jump.{left_limit-attained, truncation-IsBetween}
+use Rattle.fj_testideal.proofs.Jump.{left_limit-attained, ceiling_less_one-IsBetween}
 
 module _ {F : Field} (L : IsField F) {f : Polynomial} (A : IsPolynomial F f) where
   module _ (e m : ℕ) (t : Fraction) (value : t.numerator * F.characteristic ^ e ≡ m * t.denominator) where
@@ -60,5 +60,5 @@ module _ {F : Field} (L : IsField F) {f : Polynomial} (A : IsPolynomial F f) whe
           root = λ e h.
               let s = just_below t p e positive above in
               root_from_test_ideal e (ceil_times t (p ^ e) - 1) s refl
-              (B.test_ideal s (truncation-IsBetween L A B.near t B.is_below e h).from (just_below-less t p e positive above));
+              (B.test_ideal s (ceiling_less_one-IsBetween L A B.near t B.is_below e h).from (just_below-less t p e positive above));
         }

@@ -2,12 +2,12 @@
 use Rattle.std.proofs.Common.{ℕ, ◌+◌, ◌*◌, ◌^◌, ◌≤◌, List, [], ◌∷◌, subst}
 use Rattle.fj_coeff.specs.Field.{Field, IsField}
 use Rattle.fj_theory.specs.Polynomial.{Polynomial, IsPolynomial, power}
-use Rattle.fj_theory.specs.Ideal.{ArePolynomials, Inside, Equal}
+use Rattle.fj_theory.specs.Ideal.{ArePolynomials, Inside, SameIdeal}
 use Rattle.fj_theory.specs.Root.{IsRoot}
 use Rattle.fj_theory.proofs.PolynomialRing.{IsPolynomial-power, power_power}
 use Rattle.fj_theory.proofs.IdealBridge.{ArePolynomials-single}
 use Rattle.fj_theory.proofs.Ideal.{Inside-powers}
-use Rattle.fj_theory.proofs.Root.{IsRoot-unique, IsRoot-monotone, IsRoot-Equal_root, IsRoot-IsRoot}
+use Rattle.fj_theory.proofs.Root.{IsRoot-unique, IsRoot-monotone, IsRoot-SameIdeal_root, IsRoot-IsRoot}
 use Rattle.fj_theory.proofs.RootParts.{IsRoot-frobenius_power, root_exists}
 
 -- T is the root of f^m at e.
@@ -22,8 +22,8 @@ module _ {F : Field} (L : IsField F) {f : Polynomial} (A : IsPolynomial F f) whe
   power_root e m = root_exists L e (ArePolynomials-power m)
 
   -- A list that generates the root is the root.
-  pub IsPowerRoot-Equal : (e m : ℕ) {T T' : List Polynomial} → IsPowerRoot F f e m T → ArePolynomials F T' → Equal F T T' → IsPowerRoot F f e m T'
-  IsPowerRoot-Equal e m S P E = IsRoot-Equal_root L e (ArePolynomials-power m) S P E
+  pub IsPowerRoot-SameIdeal : (e m : ℕ) {T T' : List Polynomial} → IsPowerRoot F f e m T → ArePolynomials F T' → SameIdeal F T T' → IsPowerRoot F f e m T'
+  IsPowerRoot-SameIdeal e m S P E = IsRoot-SameIdeal_root L e (ArePolynomials-power m) S P E
 
   -- The root of a higher power is smaller.
   pub power_root-falls : (e : ℕ) {m n : ℕ} {M N : List Polynomial} → m ≤ n → IsPowerRoot F f e m M → IsPowerRoot F f e n N → Inside F N M
@@ -40,13 +40,13 @@ module _ {F : Field} (L : IsField F) {f : Polynomial} (A : IsPolynomial F f) whe
   pub power_root-unscaled : (e k m : ℕ) {T : List Polynomial} → IsPowerRoot F f (e + k) (m * F.characteristic ^ k) T → IsPowerRoot F f e m T
   power_root-unscaled e k m S =
       let R = power_root e m in
-      IsPowerRoot-Equal e m R.1 S.polynomials (IsRoot-unique (power_root-scaled e k m R.1) S)
+      IsPowerRoot-SameIdeal e m R.1 S.polynomials (IsRoot-unique (power_root-scaled e k m R.1) S)
 
   -- Where f^l and f^n have one root, so have the powers between them.
   pub power_root-squeezed : (e : ℕ) {l m n : ℕ} {T : List Polynomial} → l ≤ m → m ≤ n → IsPowerRoot F f e l T → IsPowerRoot F f e n T → IsPowerRoot F f e m T
   power_root-squeezed e {m = m} low high S S' =
       let R = power_root e m in
-      IsPowerRoot-Equal e m R.1 S.polynomials (record { forth = power_root-falls e low S R.1; back = power_root-falls e high R.1 S' })
+      IsPowerRoot-SameIdeal e m R.1 S.polynomials (record { forth = power_root-falls e low S R.1; back = power_root-falls e high R.1 S' })
 
   module _ (e k m n : ℕ) {M N : List Polynomial} (S : IsPowerRoot F f e m M) (T : IsPowerRoot F f (e + k) n N) where
     -- Roots at different e are compared by the exponents over p^e.

@@ -3,9 +3,9 @@ use Rattle.std.proofs.Common.{◌≡◌, ℕ, ◌+◌, ◌*◌, ◌/◌, ◌^◌
 use Rattle.fj_coeff.specs.Field.{Field, IsField}
 use Rattle.fj_theory.specs.Exponents.{IsExponents, total, plus, times, quotient_by}
 use Rattle.fj_theory.specs.Polynomial.{IsPolynomial, power, product, term, degree}
-use Rattle.fj_theory.specs.Ideal.{Equal, multiples}
+use Rattle.fj_theory.specs.Ideal.{SameIdeal, multiples}
 use Rattle.fj_theory.specs.Fraction.{ceil_times}
-use Rattle.fj_theory.specs.Digits.{truncation, digit, digits}
+use Rattle.fj_theory.specs.Digits.{ceiling_less_one, digit, digits}
 use Rattle.fj_theory.specs.Root.{IsRoot}
 use Rattle.fj_theory.proofs.Field.{one_below}
 use Rattle.fj_theory.proofs.Polynomial.{IsPolynomial-term}
@@ -14,7 +14,7 @@ use Rattle.fj_theory.proofs.Exponents.{total-cons}
 use Rattle.fj_theory.proofs.Frobenius.{power_positive}
 use Rattle.fj_theory.proofs.Monomial.{product_terms}
 use Rattle.fj_theory.proofs.IdealBridge.{ArePolynomials-single}
-use Rattle.fj_theory.proofs.Ideal.{Equal-refl, Inside-head}
+use Rattle.fj_theory.proofs.Ideal.{SameIdeal-refl, Inside-head}
 use Rattle.fj_testideal.specs.TestIdeal.{IsTestIdeal, IsLeftLimit}
 use Rattle.fj_testideal.specs.Chain.{IsStep}
 use Rattle.fj_testideal.specs.Examples.{x, third, one, IsNoSingleRoot, StartsAtOne, UsesLowestFirst}
@@ -57,7 +57,7 @@ module _ {F : Field} (L : IsField F) where
   degree_x n = degree-term F 1 (omega arith) (one_below L) (IsExponents-x n) ∙ ap Some (total_x n)
 
   -- (x^m) and (x^n) are one ideal for equal m and n alone.
-  apart : (m n : ℕ) → Equal F (x m ∷ []) (x n ∷ []) → m ≡ n
+  apart : (m n : ℕ) → SameIdeal F (x m ∷ []) (x n ∷ []) → m ≡ n
   apart m n E =
       omega (arith, degree-Member L (IsPolynomial-x n) (degree_x n) (degree_x m) (Inside-head E.forth), degree-Member L (IsPolynomial-x m) (degree_x m) (degree_x n) (Inside-head E.back))
 
@@ -74,8 +74,8 @@ module _ {F : Field} (L : IsField F) where
         subst (λ M. IsRoot F (F.characteristic ^ 1) M (x k ∷ [])) list
         (subst (λ k. IsRoot F (F.characteristic ^ 1) (x (d * n + j) ∷ []) (x k ∷ [])) (ap (λ p. (d * n + j) / p ^ 1) two ∙ half) (root_x 1 (d * n + j)))
 
-    same : (n : ℕ) → Equal F (x n ∷ []) (x n ∷ [])
-    same n = Equal-refl L (ArePolynomials-single (IsPolynomial-x n))
+    same : (n : ℕ) → SameIdeal F (x n ∷ []) (x n ∷ [])
+    same n = SameIdeal-refl L (ArePolynomials-single (IsPolynomial-x n))
 
     pub one_root_is_no_limit : IsNoSingleRoot F
     unfolding ceil_times
@@ -91,7 +91,7 @@ module _ {F : Field} (L : IsField F) where
         }
 
     pub falling_chain_starts_at_one : StartsAtOne F
-    unfolding ceil_times digits digit truncation
+    unfolding ceil_times digits digit ceiling_less_one
     falling_chain_starts_at_one =
         let left : IsLeftLimit F (x 1) one (x 0 ∷ []) = left_limit-monomial L (IsExponents-x 1) one (lit< tt) in
         record {
@@ -103,7 +103,7 @@ module _ {F : Field} (L : IsField F) where
         }
 
     pub lowest_digit_comes_first : UsesLowestFirst F
-    unfolding ceil_times digits digit truncation
+    unfolding ceil_times digits digit ceiling_less_one
     lowest_digit_comes_first =
         let limit : IsTestIdeal F (x 5) third (x 1 ∷ []) = test_ideal-monomial L (IsExponents-x 5) third in
         record {

@@ -26,7 +26,7 @@ use Rattle.fj_theory.proofs.PartsList.{IsTerm-part_terms, coefficient-part_terms
 use Rattle.fj_theory.proofs.PartsRing.{polynomial-Parts, map_part, residue_listed}
 use Rattle.fj_theory.proofs.Polynomial.{IsPolynomial-term, polynomial_equal, coefficient-term, coefficient_below}
 use Rattle.fj_theory.proofs.PolynomialRing.{power_first}
-use Rattle.fj_theory.proofs.Root.{IsRoot-Equal_root, IsRoot-IsRoot}
+use Rattle.fj_theory.proofs.Root.{IsRoot-SameIdeal_root, IsRoot-IsRoot}
 use Rattle.fj_theory.proofs.RootParts.{IsRoot-power, root_exists}
 use Rattle.fj_theory.proofs.Roots.{iterated_root_zero, iterated_root_positive, iterated_root_below}
 use Rattle.fj_theory.proofs.Terms.{IsPolynomial-from_entries, IsTerm-entries, from_entries-entries}
@@ -104,7 +104,7 @@ module _ {F : Field} (L : IsField F) {f : Polynomial} (A : IsPolynomial F f) {n 
         let part = Member_map L X (ring_laws.Member-part (polynomial-Parts L e) (Member_over L (InRing-frobenius_power L q X) A (Inside-head (R.1).inside)) top.0 (residue_listed L e top.1 (below top.1 top.3))) in
         let constant = subst (Member F R.0) (map_part L e (over A) top.0 ∙ part_constant top.1 top.3) part in
         let one = one_from_constant Q _ (iterated_root_positive L e _ top.2 fits) (iterated_root_below L e _ fits) constant in
-        IsRoot-Equal_root L e (ArePolynomials-single A) R.1 (ArePolynomials-single (IsPolynomial-one L)) (record { forth = Inside-one L Q; back = Inside-single one })
+        IsRoot-SameIdeal_root L e (ArePolynomials-single A) R.1 (ArePolynomials-single (IsPolynomial-one L)) (record { forth = Inside-one L Q; back = Inside-single one })
 
   -- Where T is the test ideal at two places, tau is constant between them.
   constant_between : (t u : Fraction) → compare t u ≡ Less → {T : List Polynomial} → IsTestIdeal F f t T → IsTestIdeal F f u T → IsConstant F f t u

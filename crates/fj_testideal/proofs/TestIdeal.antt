@@ -5,8 +5,8 @@ use Rattle.std.specs.declared.cmp.Ordering.TheVariants.{Less}
 use Rattle.fj_coeff.specs.Field.{Field, IsField}
 use Rattle.fj_theory.specs.Exponents.{origin}
 use Rattle.fj_theory.specs.Polynomial.{Polynomial, IsPolynomial, power, term}
-use Rattle.fj_theory.specs.Ideal.{ArePolynomials, Inside, Equal, multiples}
-use Rattle.fj_theory.specs.Fraction.{Fraction, SameValue, compare, ceil_times}
+use Rattle.fj_theory.specs.Ideal.{ArePolynomials, Inside, SameIdeal, multiples}
+use Rattle.fj_theory.specs.Fraction.{plus_whole, Fraction, SameValue, compare, ceil_times}
 use Rattle.fj_theory.specs.Root.{IsRoot}
 use Rattle.fj_theory.proofs.Fraction.{ceil_times-le, ceil_times-SameValue, ceil_times-whole, ceil_times-add}
 use Rattle.fj_theory.proofs.Root.{IsRoot-unique}
@@ -15,15 +15,14 @@ use Rattle.fj_theory.proofs.PolynomialRing.{power_zero}
 use Rattle.fj_theory.proofs.Field.{characteristic_large}
 use Rattle.fj_theory.proofs.Frobenius.{power_positive}
 use Rattle.fj_testideal.specs.TestIdeal.{IsTestIdeal, IsLeftLimit}
-use Rattle.fj_testideal.specs.TestIdealLaws.{plus}
 use Rattle.fj_testideal.proofs.Ceiling.{power_large, ceiling_positive, ceiling_rises, truncation_rises, ceiling_below}
-use Rattle.fj_testideal.proofs.PowerRoot.{IsPowerRoot, IsPowerRoot-Equal, power_root, power_root-falls, power_root-rises_across, power_root-falls_across}
+use Rattle.fj_testideal.proofs.PowerRoot.{IsPowerRoot, IsPowerRoot-SameIdeal, power_root, power_root-falls, power_root-rises_across, power_root-falls_across}
 
 -- Two test ideals at one exponent are one ideal, and so are two left limits.
-pub IsTestIdeal-unique : {F : Field} {f : Polynomial} {t : Fraction} {T T' : List Polynomial} → IsTestIdeal F f t T → IsTestIdeal F f t T' → Equal F T T'
+pub IsTestIdeal-unique : {F : Field} {f : Polynomial} {t : Fraction} {T T' : List Polynomial} → IsTestIdeal F f t T → IsTestIdeal F f t T' → SameIdeal F T T'
 IsTestIdeal-unique S S' = let e = max S.start S'.start in IsRoot-unique (S.root e (omega arith)) (S'.root e (omega arith))
 
-pub IsLeftLimit-unique : {F : Field} {f : Polynomial} {t : Fraction} {T T' : List Polynomial} → IsLeftLimit F f t T → IsLeftLimit F f t T' → Equal F T T'
+pub IsLeftLimit-unique : {F : Field} {f : Polynomial} {t : Fraction} {T T' : List Polynomial} → IsLeftLimit F f t T → IsLeftLimit F f t T' → SameIdeal F T T'
 IsLeftLimit-unique S S' = let e = max S.start S'.start in IsRoot-unique (S.root e (omega arith)) (S'.root e (omega arith))
 
 -- Test ideals and left limits depend on the value of the exponent.
@@ -41,11 +40,11 @@ IsLeftLimit-SameValue {F} {f} s t {T} same S = record {
 
 module _ {F : Field} (L : IsField F) {f : Polynomial} (A : IsPolynomial F f) where
   -- A list that generates the test ideal is one, and the same for the left limit.
-  pub IsTestIdeal-Equal : (t : Fraction) {T T' : List Polynomial} → IsTestIdeal F f t T → ArePolynomials F T' → Equal F T T' → IsTestIdeal F f t T'
-  IsTestIdeal-Equal t S P E = record { start = S.start; root = λ e h. IsPowerRoot-Equal L A e _ (S.root e h) P E }
+  pub IsTestIdeal-SameIdeal : (t : Fraction) {T T' : List Polynomial} → IsTestIdeal F f t T → ArePolynomials F T' → SameIdeal F T T' → IsTestIdeal F f t T'
+  IsTestIdeal-SameIdeal t S P E = record { start = S.start; root = λ e h. IsPowerRoot-SameIdeal L A e _ (S.root e h) P E }
 
-  pub IsLeftLimit-Equal : (t : Fraction) {T T' : List Polynomial} → IsLeftLimit F f t T → ArePolynomials F T' → Equal F T T' → IsLeftLimit F f t T'
-  IsLeftLimit-Equal t S P E = record { start = S.start; root = λ e h. IsPowerRoot-Equal L A e _ (S.root e h) P E }
+  pub IsLeftLimit-SameIdeal : (t : Fraction) {T T' : List Polynomial} → IsLeftLimit F f t T → ArePolynomials F T' → SameIdeal F T T' → IsLeftLimit F f t T'
+  IsLeftLimit-SameIdeal t S P E = record { start = S.start; root = λ e h. IsPowerRoot-SameIdeal L A e _ (S.root e h) P E }
 
   module _ (s t : Fraction) {S T : List Polynomial} where
     -- Test ideals fall as the exponent grows, and so do left limits.
@@ -93,13 +92,13 @@ module _ {F : Field} (L : IsField F) {f : Polynomial} (A : IsPolynomial F f) whe
         → IsPowerRoot F f e (ceil_times t (F.characteristic ^ e)) T
     ceiling_root-between S S' =
         let R = power_root L A e (ceil_times t (F.characteristic ^ e)) in
-        IsPowerRoot-Equal L A e _ R.1 S.polynomials (record { forth = ceiling_root-rises t e d high R.1 S'; back = ceiling_root-rises t c e low S R.1 })
+        IsPowerRoot-SameIdeal L A e _ R.1 S.polynomials (record { forth = ceiling_root-rises t e d high R.1 S'; back = ceiling_root-rises t c e low S R.1 })
 
     pub truncation_root-between : 0 < t.numerator → IsPowerRoot F f c (ceil_times t (F.characteristic ^ c) - 1) T → IsPowerRoot F f d (ceil_times t (F.characteristic ^ d) - 1) T
         → IsPowerRoot F f e (ceil_times t (F.characteristic ^ e) - 1) T
     truncation_root-between above S S' =
         let R = power_root L A e (ceil_times t (F.characteristic ^ e) - 1) in
-        IsPowerRoot-Equal L A e _ R.1 S.polynomials (record { forth = truncation_root-falls t c e low above S R.1; back = truncation_root-falls t e d high above R.1 S' })
+        IsPowerRoot-SameIdeal L A e _ R.1 S.polynomials (record { forth = truncation_root-falls t c e low above S R.1; back = truncation_root-falls t e d high above R.1 S' })
 
   -- tau(f^0) is (1).
   pub test_ideal-zero : (t : Fraction) → t.numerator ≡ 0 → IsTestIdeal F f t (term 1 origin ∷ [])
@@ -115,26 +114,26 @@ module _ {F : Field} (L : IsField F) {f : Polynomial} (A : IsPolynomial F f) whe
       }
 
   module _ (t : Fraction) (k : ℕ) where
-    ceiling_plus : (q : ℕ) → ceil_times (plus t k) q ≡ ceil_times t q + k * q
-    ceiling_plus q = ceil_times-add (plus t k) t k q refl refl
+    ceiling_plus : (q : ℕ) → ceil_times (plus_whole t k) q ≡ ceil_times t q + k * q
+    ceiling_plus q = ceil_times-add (plus_whole t k) t k q refl refl
 
     -- tau(f^(t+k)) is f^k tau(f^t).
-    pub test_ideal-plus : {T : List Polynomial} → IsTestIdeal F f t T → IsTestIdeal F f (plus t k) (multiples F (power F f k) T)
-    test_ideal-plus {T} I = record {
+    pub test_ideal-plus_whole : {T : List Polynomial} → IsTestIdeal F f t T → IsTestIdeal F f (plus_whole t k) (multiples F (power F f k) T)
+    test_ideal-plus_whole {T} I = record {
       start = I.start;
       root = λ e h.
           let q : ℕ = F.characteristic ^ e in
-          let whole : k * q + ceil_times t q ≡ ceil_times (plus t k) q = omega (arith, ceiling_plus q) in
+          let whole : k * q + ceil_times t q ≡ ceil_times (plus_whole t k) q = omega (arith, ceiling_plus q) in
           subst (λ m. IsPowerRoot F f e m (multiples F (power F f k) T)) whole (IsRoot-power L e A k (ceil_times t q) (I.root e h));
     }
 
     -- The same for left limits.
-    pub left_limit-plus : {T : List Polynomial} → 0 < t.numerator → IsLeftLimit F f t T → IsLeftLimit F f (plus t k) (multiples F (power F f k) T)
-    left_limit-plus {T} above I = record {
+    pub left_limit-plus_whole : {T : List Polynomial} → 0 < t.numerator → IsLeftLimit F f t T → IsLeftLimit F f (plus_whole t k) (multiples F (power F f k) T)
+    left_limit-plus_whole {T} above I = record {
       start = I.start;
       root = λ e h.
           let q : ℕ = F.characteristic ^ e in
           let some : 0 < ceil_times t q = ceiling_positive t q above (power_positive L e) in
-          let whole : k * q + (ceil_times t q - 1) ≡ ceil_times (plus t k) q - 1 = omega (arith, ceiling_plus q) in
+          let whole : k * q + (ceil_times t q - 1) ≡ ceil_times (plus_whole t k) q - 1 = omega (arith, ceiling_plus q) in
           subst (λ m. IsPowerRoot F f e m (multiples F (power F f k) T)) whole (IsRoot-power L e A k (ceil_times t q - 1) (I.root e h));
     }

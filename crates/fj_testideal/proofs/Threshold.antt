@@ -8,7 +8,7 @@ use Rattle.fj_theory.specs.Exponents.{origin}
 use Rattle.fj_theory.specs.Root.{IsRoot}
 use Rattle.fj_theory.specs.Polynomial.{Polynomial, IsPolynomial, term}
 use Rattle.fj_theory.specs.Ideal.{ArePolynomials, Inside}
-use Rattle.fj_theory.specs.Fraction.{Fraction, SameValue, compare, ceil_times}
+use Rattle.fj_theory.specs.Fraction.{IsAtMost, Fraction, SameValue, compare, ceil_times}
 use Rattle.fj_theory.proofs.RootParts.{IsRoot-one}
 use Rattle.fj_theory.proofs.PolynomialRing.{power_zero}
 use Rattle.fj_theory.proofs.Fraction.{ceil_times-le, ceil_times-SameValue, SameValue-from_compare, compare-IsTotalOrder, compare-less}
@@ -17,9 +17,8 @@ use Rattle.fj_theory.proofs.Ideal.{Inside-single, Inside-head, Inside-trans}
 use Rattle.fj_theory.proofs.Root.{Inside-IsRoot}
 use Rattle.fj_theory.proofs.FrobeniusPower.{Member-frobenius_power}
 use Rattle.fj_testideal.specs.TestIdeal.{IsTestIdeal, IsLeftLimit}
-use Rattle.fj_testideal.specs.TestIdealLaws.{IsAtMost}
 use Rattle.fj_testideal.specs.Threshold.{IsProper, IsPowerInside, IsNu, IsThreshold}
-use Rattle.fj_testideal.specs.ThresholdLaws.{NuIsOne, ThresholdIsOne}
+use Rattle.fj_testideal.specs.ThresholdLaws.{NuIsUnique, ThresholdIsUnique}
 use Rattle.fj_testideal.proofs.Ceiling.{power_large, ceiling_positive, ceiling_below, ceiling_rises, truncation_rises}
 use Rattle.fj_testideal.proofs.PowerRoot.{IsPowerRoot, ArePolynomials-power, power_root, power_root-falls, power_root-scaled}
 use Rattle.fj_testideal.proofs.CompleteList.{above_zero_same}
@@ -101,7 +100,7 @@ module _ {F : Field} (L : IsField F) {f : Polynomial} (A : IsPolynomial F f) {J 
     λ h. record { outside = h.0; greatest = λ k l. power_inside-more e l h.1 },
   )
 
-  pub nu_is_one : NuIsOne F f J
+  pub nu_is_one : NuIsUnique F f J
   nu_is_one = record {
     higher = λ e m n h inside. power_inside-more e h inside;
     at_zero = power_outside-zero;
@@ -174,5 +173,5 @@ module _ {F : Field} (L : IsField F) {f : Polynomial} (A : IsPolynomial F f) {J 
     λ at_most. (test_ideal_inside s I).1 (λ e. power_inside-more e (ceil_times-le t s (F.characteristic ^ e) at_most) (h.inside e)),
   )
 
-  pub threshold_is_one : ThresholdIsOne F f J
+  pub threshold_is_one : ThresholdIsUnique F f J
   threshold_is_one = record { by_nu = threshold_by_nu; unique = threshold_unique; same = IsThreshold-SameValue; least = threshold_least }

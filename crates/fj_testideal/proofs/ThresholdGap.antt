@@ -8,7 +8,7 @@ use Rattle.fj_algebra.proofs.Lists.{Any-head, Any-tail, Any-element}
 use Rattle.fj_algebra.proofs.Pairs.{contains_cons, contains_head, contains_tail, contains_nil, All-from_elements}
 use Rattle.fj_theory.specs.Polynomial.{Polynomial, IsPolynomial}
 use Rattle.fj_theory.specs.Ideal.{ArePolynomials, Member, Inside}
-use Rattle.fj_theory.specs.Fraction.{Fraction, SameValue, compare, ceil_times}
+use Rattle.fj_theory.specs.Fraction.{IsAtMost, Fraction, SameValue, compare, ceil_times}
 use Rattle.fj_theory.specs.Candidates.{IsCandidate, AreCandidates, Gap, neighbours, gaps}
 use Rattle.fj_theory.proofs.Fraction.{ceil_times-le, ceil_times-whole}
 use Rattle.fj_theory.proofs.Candidates.{IsCandidate-one, IsInUnitInterval-from_candidate}
@@ -18,7 +18,6 @@ use Rattle.fj_theory.proofs.FrobeniusPower.{Member-frobenius_power}
 use Rattle.fj_testideal.proofs.TestIdeal.{test_ideal-zero}
 use Rattle.fj_testideal.specs.TestIdeal.{IsTestIdeal, IsLeftLimit}
 use Rattle.fj_testideal.specs.Threshold.{IsProper, IsPowerInside, IsThreshold, HasThresholdInside}
-use Rattle.fj_testideal.specs.TestIdealLaws.{IsAtMost}
 use Rattle.fj_testideal.specs.ThresholdLaws.{IsDecidedAt, HasOneGap}
 use Rattle.fj_testideal.proofs.ConstantInside.{at_most_from_less}
 use Rattle.fj_testideal.proofs.Threshold.{power_inside_by_root, power_inside-more, test_ideal_inside, left_limit_inside, threshold_by_limits, ceiling_inside_above, threshold_is_one}

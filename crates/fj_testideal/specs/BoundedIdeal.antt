@@ -6,7 +6,7 @@ use Rattle.fj_coeff.specs.Field.{Field}
 use Rattle.fj_theory.specs.Exponents.{IsExponents, total}
 use Rattle.fj_theory.specs.MonomialOrder.{grevlex_key}
 use Rattle.fj_theory.specs.Polynomial.{Polynomial, IsPolynomial, coefficient, support}
-use Rattle.fj_theory.specs.Ideal.{Member, Equal}
+use Rattle.fj_theory.specs.Ideal.{Member, SameIdeal}
 use Rattle.fj_theory.specs.Lead.{lead_exponents}
 
 -- A set of variables: whether the variable at each place is in it.
@@ -36,7 +36,7 @@ pub record IsBounded (F : Field) (vars : Variables) (bound : ℕ) (f : Polynomia
 pub record IsBoundedIdeal (F : Field) (vars : Variables) (bound : ℕ) (L : List Polynomial) : Type 0 where
   pub generators : List Polynomial
   pub bounded : All (IsBounded F vars bound) generators
-  pub generate : Equal F generators L
+  pub generate : SameIdeal F generators L
 
 -- a is the lead in Grevlex of a nonzero member of (L).
 pub record IsLeadIn (F : Field) (L : List Polynomial) (a : List ℕ) : Type 0 where

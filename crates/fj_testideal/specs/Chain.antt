@@ -2,7 +2,7 @@
 use Rattle.std.specs.Prelude.{◌≡◌, ℕ, ◌^◌, List, [], ◌∷◌}
 use Rattle.fj_coeff.specs.Field.{Field}
 use Rattle.fj_theory.specs.Polynomial.{Polynomial, power}
-use Rattle.fj_theory.specs.Ideal.{Equal, multiples}
+use Rattle.fj_theory.specs.Ideal.{SameIdeal, multiples}
 use Rattle.fj_theory.specs.Root.{IsRoot}
 use Rattle.fj_theory.specs.Steps.{StepsTo}
 
@@ -26,4 +26,4 @@ pub record IsLimit (F : Field) (f : Polynomial) (period : List ℕ) (first last 
   pub chain : IsChain F f period first lists last
   pub next : List Polynomial
   pub follows : FollowsDigits F f period last next
-  pub repeats : Equal F last next
+  pub repeats : SameIdeal F last next

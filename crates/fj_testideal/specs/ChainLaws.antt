@@ -3,9 +3,9 @@ use Rattle.std.specs.Prelude.{◌≡◌, ℕ, ◌+◌, ◌-◌, ◌*◌, ◌^◌
 use Rattle.fj_coeff.specs.Field.{Field, IsField}
 use Rattle.fj_theory.specs.Exponents.{origin}
 use Rattle.fj_theory.specs.Polynomial.{Polynomial, IsPolynomial, power, term}
-use Rattle.fj_theory.specs.Ideal.{ArePolynomials, Inside, Equal, multiples}
+use Rattle.fj_theory.specs.Ideal.{ArePolynomials, Inside, SameIdeal, multiples}
 use Rattle.fj_theory.specs.Fraction.{Fraction, IsInUnitInterval}
-use Rattle.fj_theory.specs.Digits.{value_of, repeated, Expansion, IsExpansion}
+use Rattle.fj_theory.specs.Digits.{value_of, repeated_value, Expansion, IsExpansion}
 use Rattle.fj_theory.specs.Root.{IsRoot}
 use Rattle.fj_testideal.specs.TestIdeal.{IsTestIdeal, IsLeftLimit}
 use Rattle.fj_testideal.specs.Chain.{FollowsDigits, IsChain, IsLimit}
@@ -19,8 +19,8 @@ DigitsReachRoot =
 -- Where a chain is after k periods of b digits that write a: with A = a (1 + p^b + .. + p^((k-1)b)), the chain from (f) is at
 -- the root of f^(A+1) at k b, and the chain from (1) at that of f^A.
 pub record IsRootAfterPeriods (F : Field) (f : Polynomial) (period : List ℕ) (lists : List (List Polynomial)) (last : List Polynomial) : Type 0 where
-  pub from_f : IsChain F f period (f ∷ []) lists last → IsRoot F (F.characteristic ^ (length lists * length period)) (power F f (repeated (F.characteristic ^ length period) (value_of F.characteristic period) (length lists) + 1) ∷ []) last
-  pub from_one : IsChain F f period (term 1 origin ∷ []) lists last → IsRoot F (F.characteristic ^ (length lists * length period)) (power F f (repeated (F.characteristic ^ length period) (value_of F.characteristic period) (length lists)) ∷ []) last
+  pub from_f : IsChain F f period (f ∷ []) lists last → IsRoot F (F.characteristic ^ (length lists * length period)) (power F f (repeated_value (F.characteristic ^ length period) (value_of F.characteristic period) (length lists) + 1) ∷ []) last
+  pub from_one : IsChain F f period (term 1 origin ∷ []) lists last → IsRoot F (F.characteristic ^ (length lists * length period)) (power F f (repeated_value (F.characteristic ^ length period) (value_of F.characteristic period) (length lists)) ∷ []) last
 
 abbrev pub ChainsAreRoots : Type 0
 ChainsAreRoots =
@@ -40,8 +40,8 @@ ChainsAreMonotone =
 abbrev pub RepeatsStay : Type 0
 RepeatsStay =
     (F : Field) → IsField F → (f : Polynomial) → IsPolynomial F f → (period : List ℕ) (J next : List Polynomial) → ArePolynomials F J
-    → FollowsDigits F f period J next → Equal F J next
-    → (lists : List (List Polynomial)) (last : List Polynomial) → IsChain F f period J lists last → Equal F J last
+    → FollowsDigits F f period J next → SameIdeal F J next
+    → (lists : List (List Polynomial)) (last : List Polynomial) → IsChain F f period J lists last → SameIdeal F J last
 
 -- For t in (0, 1] with its digits, c of them before the period, which write N: where J is the limit of the period's chain from
 -- (f), the root at c of f^N J is the test ideal at t; where J is the limit of the chain from (1), it is the left limit. The

@@ -3,18 +3,17 @@ use Rattle.std.specs.Prelude.{◌≡◌, ◌↔◌, ℕ, ◌^◌, ◌<◌, List,
 use Rattle.std.specs.declared.cmp.Ordering.TheVariants.{Less}
 use Rattle.fj_coeff.specs.Field.{Field, IsField}
 use Rattle.fj_theory.specs.Polynomial.{Polynomial, IsPolynomial, power, degree}
-use Rattle.fj_theory.specs.Ideal.{Equal}
-use Rattle.fj_theory.specs.Fraction.{Fraction, compare}
+use Rattle.fj_theory.specs.Ideal.{SameIdeal}
+use Rattle.fj_theory.specs.Fraction.{IsAtMost, Fraction, compare}
 use Rattle.fj_theory.specs.Root.{IsRoot}
 use Rattle.fj_testideal.specs.TestIdeal.{IsTestIdeal, IsLeftLimit}
-use Rattle.fj_testideal.specs.TestIdealLaws.{IsAtMost}
 use Rattle.fj_testideal.specs.Jump.{IsJump, IsBetween, IsConstant}
 
 -- t > 0 is an F-jumping number exactly where the test ideal and the left limit at t differ.
 abbrev pub JumpsAreDifferences : Type 0
 JumpsAreDifferences =
     (F : Field) → IsField F → (f : Polynomial) → IsPolynomial F f → (t : Fraction) → 0 < t.numerator
-    → (S T : List Polynomial) → IsLeftLimit F f t S → IsTestIdeal F f t T → IsJump F f t ↔ (Equal F S T → ⊥)
+    → (S T : List Polynomial) → IsLeftLimit F f t S → IsTestIdeal F f t T → IsJump F f t ↔ (SameIdeal F S T → ⊥)
 
 -- 1 is an F-jumping number of each polynomial that isn't constant.
 abbrev pub OneIsJump : Type 0
@@ -25,7 +24,7 @@ OneIsJump =
 -- For s below t, tau is constant on [s, t) exactly where one list is both tau(f^s) and the left limit at t.
 pub record IsDecidedByEnds (F : Field) (f : Polynomial) (s t : Fraction) : Type 0 where
   pub one_list : IsConstant F f s t ↔ ((T : List Polynomial) × IsTestIdeal F f s T × IsLeftLimit F f t T)
-  pub two_lists : (S T : List Polynomial) → IsTestIdeal F f s S → IsLeftLimit F f t T → IsConstant F f s t ↔ Equal F S T
+  pub two_lists : (S T : List Polynomial) → IsTestIdeal F f s S → IsLeftLimit F f t T → IsConstant F f s t ↔ SameIdeal F S T
 
 abbrev pub ConstancyByEnds : Type 0
 ConstancyByEnds = (F : Field) → IsField F → (f : Polynomial) → IsPolynomial F f → (s t : Fraction) → compare s t ≡ Less → IsDecidedByEnds F f s t

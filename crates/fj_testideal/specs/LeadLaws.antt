@@ -6,7 +6,7 @@ use Rattle.fj_theory.specs.Exponents.{origin, total}
 use Rattle.fj_theory.specs.MonomialOrder.{grevlex_key}
 use Rattle.fj_theory.specs.Polynomial.{Polynomial, IsPolynomial, coefficient, degree, power, term}
 use Rattle.fj_theory.specs.Parts.{Part, IsParts}
-use Rattle.fj_theory.specs.Ideal.{ArePolynomials, Inside, Equal}
+use Rattle.fj_theory.specs.Ideal.{ArePolynomials, Inside, SameIdeal}
 use Rattle.fj_theory.specs.Root.{IsRoot}
 use Rattle.fj_theory.specs.ReducedBasis.{IsReducedBasis}
 use Rattle.fj_testideal.specs.Chain.{FollowsDigits, IsChain}
@@ -17,7 +17,7 @@ abbrev pub EqualByLeads : Type 0
 EqualByLeads =
     (F : Field) → IsField F → (vars : Variables) (bound : ℕ) (L M : List Polynomial) → ArePolynomials F L → ArePolynomials F M
     → IsBoundedIdeal F vars bound L → IsBoundedIdeal F vars bound M → Inside F L M
-    → ((a : List ℕ) → IsBoundedMonomial vars bound a → IsLeadIn F M a → IsLeadIn F L a) → Equal F L M
+    → ((a : List ℕ) → IsBoundedMonomial vars bound a → IsLeadIn F M a → IsLeadIn F L a) → SameIdeal F L M
 
 -- There are C(n + D, n) monomials of degree at most D in n variables.
 abbrev pub MonomialsCounted : Type 0
@@ -53,7 +53,7 @@ StrictStepCounts =
     (F : Field) → IsField F → (vars : Variables) (bound : ℕ) (L M : List Polynomial) → ArePolynomials F L → ArePolynomials F M
     → IsBoundedIdeal F vars bound L → IsBoundedIdeal F vars bound M → Inside F L M
     → (leads more : List (List ℕ)) → AreLeads F vars bound L leads → AreLeads F vars bound M more
-    → Equal F L M ⊎ (length leads < length more)
+    → SameIdeal F L M ⊎ (length leads < length more)
 
 -- The first ideals of a chain, up to the one at a place: each is generated in bounded degree, and its leads are known.
 pub record IsBoundedChain (F : Field) (vars : Variables) (bound : ℕ) (chain : ℕ → List Polynomial) (last : ℕ) : Type 0 where
@@ -64,7 +64,7 @@ pub record IsBoundedChain (F : Field) (vars : Variables) (bound : ℕ) (chain : 
 
 -- The chain repeats: two neighbours among its ideals up to the place are equal.
 abbrev pub Repeats : (F : Field) → (ℕ → List Polynomial) → ℕ → Type 0
-Repeats F chain last = (i : ℕ) × (i < last) × Equal F (chain i) (chain (suc i))
+Repeats F chain last = (i : ℕ) × (i < last) × SameIdeal F (chain i) (chain (suc i))
 
 -- A rising chain with more than C(n + D, n) steps repeats.
 abbrev pub RisingChainRepeats : Type 0
@@ -101,10 +101,10 @@ chain_at first lists i = slice_index_or (first ∷ lists) i first
 pub record PeriodsMoveLeads (F : Field) (f : Polynomial) (d : ℕ) (period : List ℕ) : Type 0 where
   pub from_f : (lists : List (List Polynomial)) (last next : List Polynomial) → IsChain F f period (f ∷ []) lists last → FollowsDigits F f period last next
       → (leads more : List (List ℕ)) → AreLeads F (occurs_in f) d last leads → AreLeads F (occurs_in f) d next more
-      → Equal F last next ⊎ (length leads < length more)
+      → SameIdeal F last next ⊎ (length leads < length more)
   pub from_one : (lists : List (List Polynomial)) (last next : List Polynomial) → IsChain F f period (term 1 origin ∷ []) lists last → FollowsDigits F f period last next
       → (leads fewer : List (List ℕ)) → AreLeads F (occurs_in f) d last leads → AreLeads F (occurs_in f) d next fewer
-      → Equal F last next ⊎ (length fewer < length leads)
+      → SameIdeal F last next ⊎ (length fewer < length leads)
 
 abbrev pub EachPeriodMovesLeads : Type 0
 EachPeriodMovesLeads =

@@ -1,28 +1,24 @@
 -- Laws of test ideals and left limits, which the law functions prove (Blickle, Mustață and Smith 2008, section 2).
-use Rattle.std.specs.Prelude.{◌≡◌, ◌↔◌, ℕ, ◌+◌, ◌*◌, ◌^◌, ◌<◌, ◌≤◌, List, [], ◌∷◌}
+use Rattle.std.specs.Prelude.{◌≡◌, ◌↔◌, ℕ, ◌*◌, ◌^◌, ◌<◌, List, [], ◌∷◌}
 use Rattle.std.specs.declared.cmp.Ordering.TheVariants.{Less}
 use Rattle.fj_coeff.specs.Field.{Field, IsField}
 use Rattle.fj_theory.specs.Exponents.{origin}
 use Rattle.fj_theory.specs.Polynomial.{Polynomial, IsPolynomial, power, term}
-use Rattle.fj_theory.specs.Ideal.{ArePolynomials, Inside, Equal, multiples}
-use Rattle.fj_theory.specs.Fraction.{Fraction, SameValue, compare}
+use Rattle.fj_theory.specs.Ideal.{ArePolynomials, Inside, SameIdeal, multiples}
+use Rattle.fj_theory.specs.Fraction.{Fraction, SameValue, IsAtMost, plus_whole, compare}
 use Rattle.fj_theory.specs.Root.{IsRoot}
 use Rattle.fj_testideal.specs.TestIdeal.{IsTestIdeal, IsLeftLimit}
 
 -- There is one test ideal for each value of t: two lists for equal exponents are one ideal, and each list that generates
 -- this ideal is one. The same for left limits.
 pub record AreUnique (F : Field) (f : Polynomial) : Type 0 where
-  pub test_ideal : (s t : Fraction) (S T : List Polynomial) → SameValue s t → IsTestIdeal F f s S → IsTestIdeal F f t T → Equal F S T
-  pub same_test_ideal : (s t : Fraction) (S T : List Polynomial) → SameValue s t → IsTestIdeal F f s S → ArePolynomials F T → Equal F S T → IsTestIdeal F f t T
-  pub left_limit : (s t : Fraction) (S T : List Polynomial) → SameValue s t → IsLeftLimit F f s S → IsLeftLimit F f t T → Equal F S T
-  pub same_left_limit : (s t : Fraction) (S T : List Polynomial) → SameValue s t → IsLeftLimit F f s S → ArePolynomials F T → Equal F S T → IsLeftLimit F f t T
+  pub test_ideal : (s t : Fraction) (S T : List Polynomial) → SameValue s t → IsTestIdeal F f s S → IsTestIdeal F f t T → SameIdeal F S T
+  pub same_test_ideal : (s t : Fraction) (S T : List Polynomial) → SameValue s t → IsTestIdeal F f s S → ArePolynomials F T → SameIdeal F S T → IsTestIdeal F f t T
+  pub left_limit : (s t : Fraction) (S T : List Polynomial) → SameValue s t → IsLeftLimit F f s S → IsLeftLimit F f t T → SameIdeal F S T
+  pub same_left_limit : (s t : Fraction) (S T : List Polynomial) → SameValue s t → IsLeftLimit F f s S → ArePolynomials F T → SameIdeal F S T → IsLeftLimit F f t T
 
 abbrev pub LimitsAreUnique : Type 0
 LimitsAreUnique = (F : Field) → IsField F → (f : Polynomial) → IsPolynomial F f → AreUnique F f
-
--- s <= t by value.
-abbrev pub IsAtMost : Fraction → Fraction → Type 0
-IsAtMost s t = s.numerator * t.denominator ≤ t.numerator * s.denominator
 
 -- The test ideal falls as t grows, and so does the left limit. The left limit at t has the test ideal at t inside, and is
 -- inside the test ideal at each s below t.
@@ -35,15 +31,11 @@ pub record AreFalling (F : Field) (f : Polynomial) : Type 0 where
 abbrev pub TestIdealsFall : Type 0
 TestIdealsFall = (F : Field) → IsField F → (f : Polynomial) → IsPolynomial F f → AreFalling F f
 
--- The fraction t + k.
-abbrev pub plus : Fraction → ℕ → Fraction
-plus t k = record { numerator = t.numerator + k * t.denominator; denominator = t.denominator; positive = t.positive }
-
 -- tau(f^0) is (1), and tau(f^(t+k)) is f^k tau(f^t). The left limit at t + k is f^k times that at t > 0.
 pub record WholeNumbersComeOut (F : Field) (f : Polynomial) : Type 0 where
   pub at_zero : (t : Fraction) → t.numerator ≡ 0 → IsTestIdeal F f t (term 1 origin ∷ [])
-  pub test_ideal : (t : Fraction) (k : ℕ) (T : List Polynomial) → IsTestIdeal F f t T → IsTestIdeal F f (plus t k) (multiples F (power F f k) T)
-  pub left_limit : (t : Fraction) (k : ℕ) (T : List Polynomial) → 0 < t.numerator → IsLeftLimit F f t T → IsLeftLimit F f (plus t k) (multiples F (power F f k) T)
+  pub test_ideal : (t : Fraction) (k : ℕ) (T : List Polynomial) → IsTestIdeal F f t T → IsTestIdeal F f (plus_whole t k) (multiples F (power F f k) T)
+  pub left_limit : (t : Fraction) (k : ℕ) (T : List Polynomial) → 0 < t.numerator → IsLeftLimit F f t T → IsLeftLimit F f (plus_whole t k) (multiples F (power F f k) T)
 
 abbrev pub WholeNumbersInExponents : Type 0
 WholeNumbersInExponents = (F : Field) → IsField F → (f : Polynomial) → IsPolynomial F f → WholeNumbersComeOut F f

@@ -4,10 +4,9 @@ use Rattle.fj_coeff.specs.Field.{Field, IsField}
 use Rattle.fj_theory.specs.Polynomial.{Polynomial, IsPolynomial, power}
 use Rattle.fj_theory.specs.Ideal.{ArePolynomials, Member, Inside}
 use Rattle.fj_theory.specs.Root.{IsRoot}
-use Rattle.fj_theory.specs.Fraction.{Fraction, SameValue, ceil_times}
+use Rattle.fj_theory.specs.Fraction.{IsAtMost, Fraction, SameValue, ceil_times}
 use Rattle.fj_theory.specs.Candidates.{IsCandidate, AreCandidates, Gap, gaps}
 use Rattle.fj_testideal.specs.TestIdeal.{IsTestIdeal, IsLeftLimit}
-use Rattle.fj_testideal.specs.TestIdealLaws.{IsAtMost}
 use Rattle.fj_testideal.specs.Threshold.{IsProper, IsPowerInside, IsNu, IsThreshold, HasThresholdInside}
 
 -- f^m is in (J^[q]) exactly where the root of f^m at e is inside (J).
@@ -18,7 +17,7 @@ PowersInsideByRoots =
 
 -- A higher power of f is in (J^[q]) where a lower one is. f^0 isn't where (J) is proper, and f^q is where f is in (J). So
 -- nu(e) is told by r and r + 1, is one number, and is below p^e where f is in (J).
-pub record NuIsOne (F : Field) (f : Polynomial) (J : List Polynomial) : Type 0 where
+pub record NuIsUnique (F : Field) (f : Polynomial) (J : List Polynomial) : Type 0 where
   pub higher : (e m n : ℕ) → m ≤ n → IsPowerInside F f J e m → IsPowerInside F f J e n
   pub at_zero : (e : ℕ) → IsProper F J → IsPowerInside F f J e 0 → ⊥
   pub at_power : (e : ℕ) → Member F J f → IsPowerInside F f J e (F.characteristic ^ e)
@@ -28,16 +27,16 @@ pub record NuIsOne (F : Field) (f : Polynomial) (J : List Polynomial) : Type 0 w
 
 -- t is the threshold exactly where nu(e) = ceil(t*p^e) - 1 for every e. All thresholds have one value, and each fraction of
 -- this value is one. It is the least t whose test ideal is inside (J).
-pub record ThresholdIsOne (F : Field) (f : Polynomial) (J : List Polynomial) : Type 0 where
+pub record ThresholdIsUnique (F : Field) (f : Polynomial) (J : List Polynomial) : Type 0 where
   pub by_nu : (t : Fraction) → 0 < t.numerator → IsThreshold F f J t ↔ ((e : ℕ) → IsNu F f J e (ceil_times t (F.characteristic ^ e) - 1))
   pub unique : (s t : Fraction) → IsThreshold F f J s → IsThreshold F f J t → SameValue s t
   pub same : (s t : Fraction) → SameValue s t → IsThreshold F f J s → IsThreshold F f J t
   pub least : (t : Fraction) → IsThreshold F f J t → (s : Fraction) (S : List Polynomial) → IsTestIdeal F f s S
       → Inside F S J ↔ IsAtMost t s
 
-abbrev pub NuAndThresholdAreOne : Type 0
-NuAndThresholdAreOne =
-    (F : Field) → IsField F → (f : Polynomial) → IsPolynomial F f → (J : List Polynomial) → ArePolynomials F J → NuIsOne F f J × ThresholdIsOne F f J
+abbrev pub NuAndThresholdAreUnique : Type 0
+NuAndThresholdAreUnique =
+    (F : Field) → IsField F → (f : Polynomial) → IsPolynomial F f → (J : List Polynomial) → ArePolynomials F J → NuIsUnique F f J × ThresholdIsUnique F f J
 
 -- t > 0 is the threshold exactly where the test ideal at t is inside (J) and the left limit isn't.
 abbrev pub ThresholdsByLimits : Type 0

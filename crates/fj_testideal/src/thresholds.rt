@@ -1,7 +1,7 @@
 //! Theorems on F-thresholds, over the definitions alone. A function of this module does nothing: its clause is the theorem,
 //! and the check proves it.
 
-ghost use Rattle.fj_testideal.specs.ThresholdLaws.{GapsByLimits, NuAndThresholdAreOne, PowersInsideByRoots, ThresholdAtOrBetween, ThresholdInOneGap, ThresholdsByLimits};
+ghost use Rattle.fj_testideal.specs.ThresholdLaws.{GapsByLimits, NuAndThresholdAreUnique, PowersInsideByRoots, ThresholdAtOrBetween, ThresholdInOneGap, ThresholdsByLimits};
 
 /// f^m is in (J^[q]) exactly where the root of f^m is inside (J).
 pub fn powers_inside_by_roots()
@@ -9,8 +9,8 @@ pub fn powers_inside_by_roots()
 {}
 
 /// nu(e) is one number, the threshold is one value, and each tells the other.
-pub fn nu_and_threshold_are_one()
-    ensures { NuAndThresholdAreOne }
+pub fn nu_and_threshold_are_unique()
+    ensures { NuAndThresholdAreUnique }
 {}
 
 /// t is the threshold exactly where the test ideal is inside (J) and the left limit isn't.

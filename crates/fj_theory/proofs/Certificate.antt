@@ -8,28 +8,29 @@ use Rattle.std.proofs.lemmas.List.Elements.{All-head, All-tail, All-drop, All-ma
 use Rattle.fj_coeff.specs.Field.{Field, IsField, primes}
 use Rattle.fj_coeff.specs.PrimeField.{prime_field}
 use Rattle.fj_coeff.specs.PrimeFieldLaws.{IsField-prime_field}
+use Rattle.fj_theory.specs.Ideal.{list_combination}
 use Rattle.fj_theory.specs.Polynomial.{Polynomial, IsPolynomial, sum, product, power, term, with_coefficients, negation}
 use Rattle.fj_theory.specs.Plain.{PlainPolynomial, polynomial, HasRanksBelow}
-use Rattle.fj_theory.specs.Certificate.{combination, AllRanksBelow, IsResidue}
+use Rattle.fj_theory.specs.Certificate.{AllRanksBelow, IsResidue}
 use Rattle.fj_theory.proofs.Polynomial.{IsPolynomial-empty, IsPolynomial-sum}
 use Rattle.fj_theory.proofs.Product.{IsPolynomial-product}
 use Rattle.fj_theory.proofs.PolynomialRing.{IsPolynomial-negation, IsPolynomial-power, sum_comm, sum_empty, sum_assoc, sum_negation}
 use Rattle.fj_theory.proofs.Plain.{IsPolynomial-polynomial}
 
 module _ {F : Field} (L : IsField F) where
-  pub IsPolynomial-combination : (fs gs : List Polynomial) → All (IsPolynomial F) fs → All (IsPolynomial F) gs → IsPolynomial F (combination F fs gs)
-  unfolding combination
+  pub IsPolynomial-combination : (fs gs : List Polynomial) → All (IsPolynomial F) fs → All (IsPolynomial F) gs → IsPolynomial F (list_combination F fs gs)
+  unfolding list_combination
   IsPolynomial-combination [] gs P Q = IsPolynomial-empty F
   IsPolynomial-combination (f ∷ fs) [] P Q = IsPolynomial-empty F
   IsPolynomial-combination (f ∷ fs) (g ∷ gs) P Q =
       IsPolynomial-sum L (IsPolynomial-product L (All-head (IsPolynomial F) f fs P) (All-head (IsPolynomial F) g gs Q)) (IsPolynomial-combination fs gs (All-tail (IsPolynomial F) f fs P) (All-tail (IsPolynomial F) g gs Q))
 
-  combination-cons : (f g : Polynomial) (fs gs : List Polynomial) → combination F (f ∷ fs) (g ∷ gs) ≡ sum F (product F f g) (combination F fs gs)
-  unfolding combination
+  combination-cons : (f g : Polynomial) (fs gs : List Polynomial) → list_combination F (f ∷ fs) (g ∷ gs) ≡ sum F (product F f g) (list_combination F fs gs)
+  unfolding list_combination
   combination-cons f g fs gs = refl
 
-  combination-nil : (gs : List Polynomial) → combination F [] gs ≡ empty
-  unfolding combination
+  combination-nil : (gs : List Polynomial) → list_combination F [] gs ≡ empty
+  unfolding list_combination
   combination-nil gs = refl
 
   drop_at : (fs : List Polynomial) (i : ℕ) (f : Polynomial) → slice_get fs i ≡ Some f → drop i fs ≡ f ∷ drop (suc i) fs
@@ -41,22 +42,22 @@ module _ {F : Field} (L : IsField F) where
   -- One product more.
   pub combination_more : (fs gs : List Polynomial) → All (IsPolynomial F) fs → All (IsPolynomial F) gs → (i : ℕ) (f g : Polynomial) → slice_get fs i ≡ Some f → slice_get gs i ≡ Some g
       → (old new whole : Polynomial) → IsPolynomial F old
-      → sum F old (combination F (drop i fs) (drop i gs)) ≡ whole
+      → sum F old (list_combination F (drop i fs) (drop i gs)) ≡ whole
       → new ≡ sum F old (product F f g)
-      → IsPolynomial F new × (sum F new (combination F (drop (i + 1) fs) (drop (i + 1) gs)) ≡ whole)
+      → IsPolynomial F new × (sum F new (list_combination F (drop (i + 1) fs) (drop (i + 1) gs)) ≡ whole)
   combination_more fs gs P Q i f g at_f at_g old new whole O before is =
       let one : IsPolynomial F (product F f g) = IsPolynomial-product L (element_at (IsPolynomial F) fs i f at_f P) (element_at (IsPolynomial F) gs i g at_g Q) in
-      let later : Polynomial = combination F (drop (suc i) fs) (drop (suc i) gs) in
+      let later : Polynomial = list_combination F (drop (suc i) fs) (drop (suc i) gs) in
       let rest : IsPolynomial F later = IsPolynomial-combination (drop (suc i) fs) (drop (suc i) gs) (All-drop (IsPolynomial F) (suc i) fs P) (All-drop (IsPolynomial F) (suc i) gs Q) in
-      let split : combination F (drop i fs) (drop i gs) ≡ sum F (product F f g) later = ap₂ (combination F) (drop_at fs i f at_f) (drop_at gs i g at_g) ∙ combination-cons f g (drop (suc i) fs) (drop (suc i) gs) in (
+      let split : list_combination F (drop i fs) (drop i gs) ≡ sum F (product F f g) later = ap₂ (list_combination F) (drop_at fs i f at_f) (drop_at gs i g at_g) ∙ combination-cons f g (drop (suc i) fs) (drop (suc i) gs) in (
         subst (IsPolynomial F) (sym is) (IsPolynomial-sum L O one),
-        ap (λ n. sum F new (combination F (drop n fs) (drop n gs))) (add-one i) ∙ ap (λ h. sum F h later) is ∙ sum_assoc L O one rest ∙ ap (sum F old) (sym split) ∙ before,
+        ap (λ n. sum F new (list_combination F (drop n fs) (drop n gs))) (add-one i) ∙ ap (λ h. sum F h later) is ∙ sum_assoc L O one rest ∙ ap (sum F old) (sym split) ∙ before,
       )
 
   -- All products.
-  pub combination_all : (fs gs : List Polynomial) (i : ℕ) → length fs ≤ i → (now whole : Polynomial) → IsPolynomial F now → sum F now (combination F (drop i fs) (drop i gs)) ≡ whole → now ≡ whole
+  pub combination_all : (fs gs : List Polynomial) (i : ℕ) → length fs ≤ i → (now whole : Polynomial) → IsPolynomial F now → sum F now (list_combination F (drop i fs) (drop i gs)) ≡ whole → now ≡ whole
   combination_all fs gs i short now whole P before =
-      sym (sum_empty L P) ∙ ap (sum F now) (sym (ap (λ hs. combination F hs (drop i gs)) (drop_all i fs short) ∙ combination-nil (drop i gs))) ∙ before
+      sym (sum_empty L P) ∙ ap (sum F now) (sym (ap (λ hs. list_combination F hs (drop i gs)) (drop_all i fs short) ∙ combination-nil (drop i gs))) ∙ before
 
   -- Two polynomials are equal exactly where their difference is zero.
   pub equal_from_difference : {f g : Polynomial} → IsPolynomial F f → IsPolynomial F g → sum F g (negation F f) ≡ empty → f ≡ g

@@ -7,10 +7,10 @@ use Rattle.fj_algebra.proofs.Lists.{All-map_back, All-append_left, All-append_ri
 use Rattle.fj_algebra.proofs.Colon as ring_laws
 use Rattle.fj_theory.specs.Exponents.{origin}
 use Rattle.fj_theory.specs.Polynomial.{Polynomial, IsPolynomial, product, term}
-use Rattle.fj_theory.specs.Ideal.{ArePolynomials, Member, Inside, Equal, multiples}
+use Rattle.fj_theory.specs.Ideal.{ArePolynomials, Member, Inside, SameIdeal, multiples}
 use Rattle.fj_theory.specs.Colon.{IsMeet, InColon, IsColon}
 use Rattle.fj_theory.proofs.PolynomialRing.{PolynomialOver, over_equal, polynomial_ring, map_one, map_mul}
-use Rattle.fj_theory.proofs.IdealBridge.{over, in_ring, InRing, InRing-nil, InRing-cons, InRing-multiples, Member_map, Member_over, Inside_map, Inside_over, Equal_over, ArePolynomials-InRing, Member_polynomial}
+use Rattle.fj_theory.proofs.IdealBridge.{over, in_ring, InRing, InRing-nil, InRing-cons, InRing-multiples, Member_map, Member_over, Inside_map, Inside_over, SameIdeal_over, ArePolynomials-InRing, Member_polynomial}
 use Rattle.fj_theory.proofs.Ideal.{Inside-from, Member-elements, Member-Inside}
 
 module _ {F : Field} {M N : List Polynomial} {h : Polynomial} where
@@ -89,7 +89,7 @@ module _ {F : Field} (L : IsField F) where
       }
 
   module _ {M N : List Polynomial} (P : ArePolynomials F M) (Q : ArePolynomials F N) where
-    pub IsMeet-unique : {K K' : List Polynomial} → IsMeet F M N K → IsMeet F M N K' → Equal F K K'
+    pub IsMeet-unique : {K K' : List Polynomial} → IsMeet F M N K → IsMeet F M N K' → SameIdeal F K K'
     IsMeet-unique S T = record {
       forth = Inside-from L S.polynomials (λ h H G. (T.members h H).1 ((S.members h H).0 G));
       back = Inside-from L T.polynomials (λ h H G. (S.members h H).1 ((T.members h H).0 G));
@@ -105,7 +105,7 @@ module _ {F : Field} (L : IsField F) where
     pub Inside-IsMeet : {K J : List Polynomial} → ArePolynomials F J → IsMeet F M N K → Inside F J M → Inside F J N → Inside F J K
     Inside-IsMeet S' S I I' = Inside-from L S' (λ h H G. (S.members h H).1 (record { left = Member-Inside L S' P I G; right = Member-Inside L S' Q I' G }))
 
-    pub IsColon-unique : {K K' : List Polynomial} → IsColon F M N K → IsColon F M N K' → Equal F K K'
+    pub IsColon-unique : {K K' : List Polynomial} → IsColon F M N K → IsColon F M N K' → SameIdeal F K K'
     IsColon-unique S T = record {
       forth = Inside-from L S.polynomials (λ h H G. (T.members h H).1 ((S.members h H).0 G));
       back = Inside-from L T.polynomials (λ h H G. (S.members h H).1 ((T.members h H).0 G));
@@ -149,22 +149,22 @@ module _ {F : Field} (L : IsField F) where
 
   -- Meets and quotients depend on the ideals alone.
   module _ {M M' N N' K K' : List Polynomial} (P : ArePolynomials F M) (P' : ArePolynomials F M') (Q : ArePolynomials F N) (Q' : ArePolynomials F N') (S : ArePolynomials F K) (S' : ArePolynomials F K') where
-    pub IsMeet-Equal : Equal F M M' → Equal F N N' → Equal F K K' → IsMeet F M N K → IsMeet F M' N' K'
-    IsMeet-Equal E G H U =
+    pub IsMeet-SameIdeal : SameIdeal F M M' → SameIdeal F N N' → SameIdeal F K K' → IsMeet F M N K → IsMeet F M' N' K'
+    IsMeet-SameIdeal E G H U =
         let X = in_ring P in
         let X' = in_ring P' in
         let Y = in_ring Q in
         let Y' = in_ring Q' in
         let Z = in_ring S in
         let Z' = in_ring S' in
-        Meet_map X' Y' Z' (ring_laws.Meet-Equal (Equal_over L X X' E) (Equal_over L Y Y' G) (Equal_over L Z Z' H) (Meet_over X Y Z U))
+        Meet_map X' Y' Z' (ring_laws.Meet-SameIdeal (SameIdeal_over L X X' E) (SameIdeal_over L Y Y' G) (SameIdeal_over L Z Z' H) (Meet_over X Y Z U))
 
-    pub IsColon-Equal : Equal F M M' → Equal F N N' → Equal F K K' → IsColon F M N K → IsColon F M' N' K'
-    IsColon-Equal E G H U =
+    pub IsColon-SameIdeal : SameIdeal F M M' → SameIdeal F N N' → SameIdeal F K K' → IsColon F M N K → IsColon F M' N' K'
+    IsColon-SameIdeal E G H U =
         let X = in_ring P in
         let X' = in_ring P' in
         let Y = in_ring Q in
         let Y' = in_ring Q' in
         let Z = in_ring S in
         let Z' = in_ring S' in
-        Colon_map X' Y' Z' (ring_laws.Colon-Equal (Equal_over L X X' E) (Equal_over L Y Y' G) (Equal_over L Z Z' H) (Colon_over X Y Z U))
+        Colon_map X' Y' Z' (ring_laws.Colon-SameIdeal (SameIdeal_over L X X' E) (SameIdeal_over L Y Y' G) (SameIdeal_over L Z Z' H) (Colon_over X Y Z U))

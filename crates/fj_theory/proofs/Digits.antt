@@ -5,7 +5,7 @@ use Rattle.std.proofs.lemmas.Bool.{cases_lt}
 use Rattle.std.proofs.lemmas.List.Elements.{All-nil, All-cons}
 use Rattle.std.proofs.Math.Nat.{pow-zero, pow-suc, one-le-pow, lt_of_mul-lt-mul_right, mul-le-mul_left, mul-le-mul_right, mul-lt-mul_of_pos_left, mul-lt-mul_of_pos_right}
 use Rattle.fj_theory.specs.Fraction.{Fraction, SameValue, IsInUnitInterval, ceil_times}
-use Rattle.fj_theory.specs.Digits.{truncation, digit, digits, value_of}
+use Rattle.fj_theory.specs.Digits.{ceiling_less_one, digit, digits, value_of}
 use Rattle.fj_theory.proofs.Fraction.{ceil_times-IsCeiling, ceil_times-SameValue}
 
 -- N is the greatest whole number below t*p^e.
@@ -25,19 +25,19 @@ ceil_times_positive p t e positive above = elim (cases_lt 0 (ceil_times t (p ^ e
 ]
 
 -- ceil(t*p^e) = N_e + 1.
-pub ceil_times-truncation : (p : ℕ) (t : Fraction) (e : ℕ) → 0 < p → 0 < t.numerator → ceil_times t (p ^ e) ≡ truncation p t e + 1
-unfolding truncation
-ceil_times-truncation p t e positive above = omega (arith, ceil_times_positive p t e positive above)
+pub ceil_times-ceiling_less_one : (p : ℕ) (t : Fraction) (e : ℕ) → 0 < p → 0 < t.numerator → ceil_times t (p ^ e) ≡ ceiling_less_one p t e + 1
+unfolding ceiling_less_one
+ceil_times-ceiling_less_one p t e positive above = omega (arith, ceil_times_positive p t e positive above)
 
 -- N_e is the greatest whole number below t*p^e.
-pub truncation-IsTruncation : (p : ℕ) (t : Fraction) (e : ℕ) → 0 < p → 0 < t.numerator → IsTruncation p t e (truncation p t e)
-truncation-IsTruncation p t e positive above =
+pub ceiling_less_one-IsTruncation : (p : ℕ) (t : Fraction) (e : ℕ) → 0 < p → 0 < t.numerator → IsTruncation p t e (ceiling_less_one p t e)
+ceiling_less_one-IsTruncation p t e positive above =
     let ceiling = ceil_times-IsCeiling t (p ^ e) in
-    let next = ceil_times-truncation p t e positive above in
+    let next = ceil_times-ceiling_less_one p t e positive above in
     record {
-      below = elim (cases_lt (truncation p t e * t.denominator) (t.numerator * p ^ e)) [
+      below = elim (cases_lt (ceiling_less_one p t e * t.denominator) (t.numerator * p ^ e)) [
         | inl less ↦ less
-        | inr enough ↦ absurd (omega (arith, ceiling.least (truncation p t e) enough))
+        | inr enough ↦ absurd (omega (arith, ceiling.least (ceiling_less_one p t e) enough))
       ];
       next = subst (λ c. t.numerator * p ^ e ≤ c * t.denominator) next ceiling.enough;
     }
@@ -53,35 +53,35 @@ IsTruncation-unique p t e N M h k = omega (arith, IsTruncation-le p t e N M h k,
 
 -- The recurrence N_(e+1) = p*N_e + d, with a digit below p.
 pub record IsDigit (p : ℕ) (t : Fraction) (e : ℕ) : Type 0 where
-  pub recurrence : truncation p t (e + 1) ≡ p * truncation p t e + digit p t e
+  pub recurrence : ceiling_less_one p t (e + 1) ≡ p * ceiling_less_one p t e + digit p t e
   pub below : digit p t e < p
 
 pub digit-IsDigit : (p : ℕ) (t : Fraction) (e : ℕ) → 0 < p → 0 < t.numerator → IsDigit p t e
 unfolding digit
 digit-IsDigit p t e positive above =
-    let now = truncation-IsTruncation p t e positive above in
-    let after = truncation-IsTruncation p t (e + 1) positive above in
+    let now = ceiling_less_one-IsTruncation p t e positive above in
+    let after = ceiling_less_one-IsTruncation p t (e + 1) positive above in
     let power : p ^ (e + 1) ≡ p * p ^ e = rw add-one (pow-suc p e ∙ omega arith) in
     let product : t.numerator * p ^ (e + 1) ≡ p * (t.numerator * p ^ e) = ap (λ n. t.numerator * n) power ∙ omega arith in
-    let low : p * (truncation p t e * t.denominator) < p * (t.numerator * p ^ e) = mul-lt-mul_of_pos_left now.below positive in
-    let high : p * (t.numerator * p ^ e) ≤ p * ((truncation p t e + 1) * t.denominator) = mul-le-mul_left p now.next in
-    let first : (p * truncation p t e) * t.denominator < (truncation p t (e + 1) + 1) * t.denominator = omega (arith, after.next) in
-    let second : truncation p t (e + 1) * t.denominator < (p * truncation p t e + p) * t.denominator = omega (arith, after.below) in
-    let from : p * truncation p t e < truncation p t (e + 1) + 1 = lt_of_mul-lt-mul_right t.denominator first in
-    let to : truncation p t (e + 1) < p * truncation p t e + p = lt_of_mul-lt-mul_right t.denominator second in
+    let low : p * (ceiling_less_one p t e * t.denominator) < p * (t.numerator * p ^ e) = mul-lt-mul_of_pos_left now.below positive in
+    let high : p * (t.numerator * p ^ e) ≤ p * ((ceiling_less_one p t e + 1) * t.denominator) = mul-le-mul_left p now.next in
+    let first : (p * ceiling_less_one p t e) * t.denominator < (ceiling_less_one p t (e + 1) + 1) * t.denominator = omega (arith, after.next) in
+    let second : ceiling_less_one p t (e + 1) * t.denominator < (p * ceiling_less_one p t e + p) * t.denominator = omega (arith, after.below) in
+    let from : p * ceiling_less_one p t e < ceiling_less_one p t (e + 1) + 1 = lt_of_mul-lt-mul_right t.denominator first in
+    let to : ceiling_less_one p t (e + 1) < p * ceiling_less_one p t e + p = lt_of_mul-lt-mul_right t.denominator second in
     record { recurrence = omega arith; below = omega arith }
 
 -- N_0 = 0.
-pub truncation-zero : (p : ℕ) (t : Fraction) → t.numerator ≤ t.denominator → truncation p t 0 ≡ 0
-unfolding truncation
-truncation-zero p t small =
+pub ceiling_less_one-zero : (p : ℕ) (t : Fraction) → t.numerator ≤ t.denominator → ceiling_less_one p t 0 ≡ 0
+unfolding ceiling_less_one
+ceiling_less_one-zero p t small =
     let one : t.numerator * p ^ 0 ≤ 1 * t.denominator = rw (pow-zero p) (omega arith) in
     omega (arith, (ceil_times-IsCeiling t (p ^ 0)).least 1 one)
 
 -- The digits depend on the value of t alone.
-pub truncation-SameValue : (p : ℕ) (s t : Fraction) (e : ℕ) → SameValue s t → truncation p s e ≡ truncation p t e
-unfolding truncation
-truncation-SameValue p s t e same = ap (λ n. n - 1) (ceil_times-SameValue s t (p ^ e) same)
+pub ceiling_less_one-SameValue : (p : ℕ) (s t : Fraction) (e : ℕ) → SameValue s t → ceiling_less_one p s e ≡ ceiling_less_one p t e
+unfolding ceiling_less_one
+ceiling_less_one-SameValue p s t e same = ap (λ n. n - 1) (ceil_times-SameValue s t (p ^ e) same)
 
 pub length-digits : (p : ℕ) (t : Fraction) (from count : ℕ) → length (digits p t from count) ≡ count
 unfolding digits
@@ -103,21 +103,21 @@ digits_below p t from (suc count) positive above =
     All-cons (λ d. d < p) (digit p t from) (digits p t (from + 1) count) (digit-IsDigit p t from positive above).below (digits_below p t (from + 1) count positive above)
 
 fold_digits : (p : ℕ) (t : Fraction) (from count : ℕ) → 0 < p → 0 < t.numerator
-    → fold (λ n d. p * n + d) (truncation p t from) (digits p t from count) ≡ truncation p t (from + count)
+    → fold (λ n d. p * n + d) (ceiling_less_one p t from) (digits p t from count) ≡ ceiling_less_one p t (from + count)
 unfolding digits
-fold_digits p t from zero positive above = ap (truncation p t) (omega arith)
+fold_digits p t from zero positive above = ap (ceiling_less_one p t) (omega arith)
 fold_digits p t from (suc count) positive above =
     ap (λ n. fold (λ n d. p * n + d) n (digits p t (from + 1) count)) (sym (digit-IsDigit p t from positive above).recurrence)
     ∙ fold_digits p t (from + 1) count positive above
-    ∙ ap (truncation p t) (omega arith)
+    ∙ ap (ceiling_less_one p t) (omega arith)
 
 -- The first c digits write N_c.
-pub value_of-digits : (p : ℕ) (t : Fraction) (c : ℕ) → 0 < p → IsInUnitInterval t → value_of p (digits p t 0 c) ≡ truncation p t c
+pub value_of-digits : (p : ℕ) (t : Fraction) (c : ℕ) → 0 < p → IsInUnitInterval t → value_of p (digits p t 0 c) ≡ ceiling_less_one p t c
 unfolding value_of
 value_of-digits p t c positive unit =
-    ap (λ n. fold (λ n d. p * n + d) n (digits p t 0 c)) (sym (truncation-zero p t unit.at_most_one))
+    ap (λ n. fold (λ n d. p * n + d) n (digits p t 0 c)) (sym (ceiling_less_one-zero p t unit.at_most_one))
     ∙ fold_digits p t 0 c positive unit.above_zero
-    ∙ ap (truncation p t) (omega arith)
+    ∙ ap (ceiling_less_one p t) (omega arith)
 
 fold_from : (p n : ℕ) (ds : List ℕ) → fold (λ n d. p * n + d) n ds ≡ p ^ length ds * n + fold (λ n d. p * n + d) 0 ds
 fold_from p n [] = rw (pow-zero p) (omega arith)
@@ -129,13 +129,13 @@ fold_from p n (d ∷ ds) =
     omega arith
 
 -- More digits: N_(e+k) is p^k*N_e and the number that the k digits from e on write.
-pub truncation-more : (p : ℕ) (t : Fraction) (e k : ℕ) → 0 < p → 0 < t.numerator
-    → truncation p t (e + k) ≡ p ^ k * truncation p t e + value_of p (digits p t e k)
+pub ceiling_less_one-more : (p : ℕ) (t : Fraction) (e k : ℕ) → 0 < p → 0 < t.numerator
+    → ceiling_less_one p t (e + k) ≡ p ^ k * ceiling_less_one p t e + value_of p (digits p t e k)
 unfolding value_of
-truncation-more p t e k positive above =
+ceiling_less_one-more p t e k positive above =
     sym (fold_digits p t e k positive above)
-    ∙ fold_from p (truncation p t e) (digits p t e k)
-    ∙ ap (λ n. p ^ n * truncation p t e + fold (λ n d. p * n + d) 0 (digits p t e k)) (length-digits p t e k)
+    ∙ fold_from p (ceiling_less_one p t e) (digits p t e k)
+    ∙ ap (λ n. p ^ n * ceiling_less_one p t e + fold (λ n d. p * n + d) 0 (digits p t e k)) (length-digits p t e k)
 
 -- The first digit counts most, the last digit least.
 pub value_of-cons : (p d : ℕ) (ds : List ℕ) → value_of p (d ∷ ds) ≡ p ^ length ds * d + value_of p ds

@@ -14,7 +14,7 @@ use Rattle.fj_algebra.proofs.Fedder as ring_criteria
 use Rattle.fj_theory.specs.Exponents.{origin}
 use Rattle.fj_theory.specs.Polynomial.{Polynomial, IsPolynomial, term}
 use Rattle.fj_theory.specs.Parts.{IsParts}
-use Rattle.fj_theory.specs.Ideal.{ArePolynomials, Member, Inside, Equal, multiples}
+use Rattle.fj_theory.specs.Ideal.{ArePolynomials, Member, Inside, SameIdeal, multiples}
 use Rattle.fj_theory.specs.FrobeniusPower.{frobenius_power}
 use Rattle.fj_theory.specs.Root.{IsRoot}
 use Rattle.fj_theory.specs.Colon.{IsColon}
@@ -202,15 +202,15 @@ module _ {F : Field} (L : IsField F) where
         )
 
   -- F-purity and compatibility depend on the ideal alone.
-  module _ {I J : List Polynomial} (P : ArePolynomials F I) (Q : ArePolynomials F J) (E : Equal F I J) where
-    Keeps-Equal : {phi : Polynomial → Polynomial} → Keeps F phi I → Keeps F phi J
-    Keeps-Equal V = record { each = λ g G. Member-Inside L P Q E.forth (V.each g (Member-Inside L Q P E.back G)) }
+  module _ {I J : List Polynomial} (P : ArePolynomials F I) (Q : ArePolynomials F J) (E : SameIdeal F I J) where
+    Keeps-SameIdeal : {phi : Polynomial → Polynomial} → Keeps F phi I → Keeps F phi J
+    Keeps-SameIdeal V = record { each = λ g G. Member-Inside L P Q E.forth (V.each g (Member-Inside L Q P E.back G)) }
 
-    pub IsFPure-Equal : IsFPure F I → IsFPure F J
-    IsFPure-Equal V = record { phi = V.phi; linear = V.linear; keeps = Keeps-Equal V.keeps; splits = Member-Inside L P Q E.forth V.splits }
+    pub IsFPure-SameIdeal : IsFPure F I → IsFPure F J
+    IsFPure-SameIdeal V = record { phi = V.phi; linear = V.linear; keeps = Keeps-SameIdeal V.keeps; splits = Member-Inside L P Q E.forth V.splits }
 
-    pub IsFPureAt-Equal : {point : List ℕ} → IsFPureAt F I point → IsFPureAt F J point
-    IsFPureAt-Equal V = record { phi = V.phi; linear = V.linear; keeps = Keeps-Equal V.keeps; nonzero = V.nonzero }
+    pub IsFPureAt-SameIdeal : {point : List ℕ} → IsFPureAt F I point → IsFPureAt F J point
+    IsFPureAt-SameIdeal V = record { phi = V.phi; linear = V.linear; keeps = Keeps-SameIdeal V.keeps; nonzero = V.nonzero }
 
-    pub IsCompatible-Equal : {e : ℕ} {u : Polynomial} → IsCompatible F e u I → IsCompatible F e u J
-    IsCompatible-Equal V = record { each = λ g G parts D. Member-Inside L P Q E.forth (V.each g (Member-Inside L Q P E.back G) parts D) }
+    pub IsCompatible-SameIdeal : {e : ℕ} {u : Polynomial} → IsCompatible F e u I → IsCompatible F e u J
+    IsCompatible-SameIdeal V = record { each = λ g G parts D. Member-Inside L P Q E.forth (V.each g (Member-Inside L Q P E.back G) parts D) }

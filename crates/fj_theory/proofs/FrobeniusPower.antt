@@ -6,10 +6,10 @@ use Rattle.fj_algebra.specs.Power as ring
 use Rattle.fj_algebra.specs.Ideal as ring_ideal
 use Rattle.fj_algebra.proofs.Frobenius as ring_laws
 use Rattle.fj_theory.specs.Polynomial.{Polynomial, IsPolynomial, power}
-use Rattle.fj_theory.specs.Ideal.{ArePolynomials, Member, Inside, Equal, multiples, products}
+use Rattle.fj_theory.specs.Ideal.{ArePolynomials, Member, Inside, SameIdeal, multiples, products}
 use Rattle.fj_theory.specs.FrobeniusPower.{frobenius_power}
 use Rattle.fj_theory.proofs.PolynomialRing.{PolynomialOver, polynomial_ring, map_power}
-use Rattle.fj_theory.proofs.IdealBridge.{over, maps, in_ring, Member_map, Member_over, Inside_map, Inside_over, Equal_map, Equal_over, ArePolynomials-InRing, InRing-multiples, InRing-products, InRing-frobenius_power, Member_polynomial, multiples_maps}
+use Rattle.fj_theory.proofs.IdealBridge.{over, maps, in_ring, Member_map, Member_over, Inside_map, Inside_over, SameIdeal_map, SameIdeal_over, ArePolynomials-InRing, InRing-multiples, InRing-products, InRing-frobenius_power, Member_polynomial, multiples_maps}
 use Rattle.fj_theory.proofs.Frobenius.{polynomial-IsFrobenius}
 
 pub frobenius_power-append : (F : Field) (q : ℕ) (M N : List Polynomial) → frobenius_power F q (M ++ N) ≡ frobenius_power F q M ++ frobenius_power F q N
@@ -69,8 +69,8 @@ module _ {F : Field} (L : IsField F) where
           let Y = in_ring Q in
           Inside_map L (InRing-frobenius_power L (F.characteristic ^ e) X) (InRing-frobenius_power L (F.characteristic ^ e) Y) (ring_laws.Inside-frobenius_power (polynomial-IsFrobenius L e) (Inside_over L X Y I))
 
-      pub Equal-frobenius_power : Equal F M N → Equal F (frobenius_power F (F.characteristic ^ e) M) (frobenius_power F (F.characteristic ^ e) N)
-      Equal-frobenius_power E =
+      pub SameIdeal-frobenius_power : SameIdeal F M N → SameIdeal F (frobenius_power F (F.characteristic ^ e) M) (frobenius_power F (F.characteristic ^ e) N)
+      SameIdeal-frobenius_power E =
           let X = in_ring P in
           let Y = in_ring Q in
-          Equal_map L (InRing-frobenius_power L (F.characteristic ^ e) X) (InRing-frobenius_power L (F.characteristic ^ e) Y) (ring_laws.Equal-frobenius_power (polynomial-IsFrobenius L e) (Equal_over L X Y E))
+          SameIdeal_map L (InRing-frobenius_power L (F.characteristic ^ e) X) (InRing-frobenius_power L (F.characteristic ^ e) Y) (ring_laws.SameIdeal-frobenius_power (polynomial-IsFrobenius L e) (SameIdeal_over L X Y E))

@@ -8,17 +8,17 @@ use Rattle.fj_algebra.specs.Ideal as ring_ideal
 use Rattle.fj_algebra.proofs.Ideal as ring_laws
 use Rattle.fj_theory.specs.Exponents.{origin}
 use Rattle.fj_theory.specs.Polynomial.{Polynomial, IsPolynomial, sum, product, negation, power, term}
-use Rattle.fj_theory.specs.Ideal.{ArePolynomials, combination, list_combination, Member, Inside, Equal, multiples, products}
+use Rattle.fj_theory.specs.Ideal.{ArePolynomials, combination, list_combination, Member, Inside, SameIdeal, multiples, products}
 use Rattle.fj_theory.proofs.PolynomialRing.{polynomial_ring, map_zero, map_one, map_add, map_neg, map_mul, product_one, over_equal, IsPolynomial-power, power_add}
 use Rattle.fj_theory.proofs.Product.{IsPolynomial-product}
-use Rattle.fj_theory.proofs.IdealBridge.{over, maps, ArePolynomials-maps, ArePolynomials-single, ArePolynomials-head, ArePolynomials-tail, in_ring, InRing, Member_map, Member_over, Inside_map, Inside_over, Equal_map, Equal_over, ArePolynomials-InRing, InRing-nil, InRing-cons, InRing-append, InRing-multiples, InRing-products, IsPolynomial-one, Member_polynomial, list_combination_map}
+use Rattle.fj_theory.proofs.IdealBridge.{over, maps, ArePolynomials-maps, ArePolynomials-single, ArePolynomials-head, ArePolynomials-tail, in_ring, InRing, Member_map, Member_over, Inside_map, Inside_over, SameIdeal_map, SameIdeal_over, ArePolynomials-InRing, InRing-nil, InRing-cons, InRing-append, InRing-multiples, InRing-products, IsPolynomial-one, Member_polynomial, list_combination_map}
 
 pub ArePolynomials-append : {F : Field} {M N : List Polynomial} → ArePolynomials F M → ArePolynomials F N → ArePolynomials F (M ++ N)
 ArePolynomials-append {F} {M} {N} P Q = record { each = All-append (IsPolynomial F) M N P.each Q.each }
 
 -- Equality of ideals, inclusion in both ways, is symmetric.
-pub Equal-sym : {F : Field} {M N : List Polynomial} → Equal F M N → Equal F N M
-Equal-sym E = record { forth = E.back; back = E.forth }
+pub SameIdeal-sym : {F : Field} {M N : List Polynomial} → SameIdeal F M N → SameIdeal F N M
+SameIdeal-sym E = record { forth = E.back; back = E.forth }
 
 module _ {F : Field} where
   pub Member-nil : {h : Polynomial} → Member F [] h → h ≡ empty
@@ -78,8 +78,8 @@ module _ {F : Field} (L : IsField F) where
     pub Member-Contains : {g : Polynomial} → Contains M g → Member F M g
     Member-Contains {g} c = Inside-Contains Inside-refl c
 
-    pub Equal-refl : Equal F M M
-    Equal-refl = record { forth = Inside-refl; back = Inside-refl }
+    pub SameIdeal-refl : SameIdeal F M M
+    SameIdeal-refl = record { forth = Inside-refl; back = Inside-refl }
 
     pub Inside-from : {N : List Polynomial} → ((h : Polynomial) → IsPolynomial F h → Member F M h → Member F N h) → Inside F M N
     Inside-from {N} f = record { each = All-weaker (Member F M) (Member F N) (λ h H. f h (Member_polynomial L P H) H) M Member-elements }
@@ -131,11 +131,11 @@ module _ {F : Field} (L : IsField F) where
         let Y = in_ring Q in
         Inside_map L Y (InRing-append X Y) (ring_laws.Inside-append_right X.list Y.list)
 
-    pub Equal-append_comm : Equal F (M ++ N) (N ++ M)
-    Equal-append_comm =
+    pub SameIdeal-append_comm : SameIdeal F (M ++ N) (N ++ M)
+    SameIdeal-append_comm =
         let X = in_ring P in
         let Y = in_ring Q in
-        Equal_map L (InRing-append X Y) (InRing-append Y X) (ring_laws.Equal-append_comm X.list Y.list)
+        SameIdeal_map L (InRing-append X Y) (InRing-append Y X) (ring_laws.SameIdeal-append_comm X.list Y.list)
 
     -- A member of the sum is a sum of members.
     pub Member-append_split : {h : Polynomial} → Member F (M ++ N) h → (a : Polynomial) × (b : Polynomial) × Member F M a × Member F N b × h ≡ sum F a b
@@ -155,11 +155,11 @@ module _ {F : Field} (L : IsField F) where
         let Y = in_ring Q in
         subst (Member F (products F M N)) (map_mul L _ _) (Member_map L (InRing-products L X Y) (ring_laws.Member-products X.list Y.list (in_list P H) (in_list Q K)))
 
-    pub Equal-products_comm : Equal F (products F M N) (products F N M)
-    Equal-products_comm =
+    pub SameIdeal-products_comm : SameIdeal F (products F M N) (products F N M)
+    SameIdeal-products_comm =
         let X = in_ring P in
         let Y = in_ring Q in
-        Equal_map L (InRing-products L X Y) (InRing-products L Y X) (ring_laws.Equal-products_comm X.list Y.list)
+        SameIdeal_map L (InRing-products L X Y) (InRing-products L Y X) (ring_laws.SameIdeal-products_comm X.list Y.list)
 
   module _ {M N K : List Polynomial} (P : ArePolynomials F M) (Q : ArePolynomials F N) (S : ArePolynomials F K) where
     pub Inside-trans : Inside F M N → Inside F N K → Inside F M K
@@ -169,12 +169,12 @@ module _ {F : Field} (L : IsField F) where
         let Z = in_ring S in
         Inside_map L X Z (ring_laws.Inside-trans (Inside_over L X Y I) (Inside_over L Y Z J))
 
-    pub Equal-products_assoc : Equal F (products F (products F M N) K) (products F M (products F N K))
-    Equal-products_assoc =
+    pub SameIdeal-products_assoc : SameIdeal F (products F (products F M N) K) (products F M (products F N K))
+    SameIdeal-products_assoc =
         let X = in_ring P in
         let Y = in_ring Q in
         let Z = in_ring S in
-        Equal_map L (InRing-products L (InRing-products L X Y) Z) (InRing-products L X (InRing-products L Y Z)) (ring_laws.Equal-products_assoc X.list Y.list Z.list)
+        SameIdeal_map L (InRing-products L (InRing-products L X Y) Z) (InRing-products L X (InRing-products L Y Z)) (ring_laws.SameIdeal-products_assoc X.list Y.list Z.list)
 
     -- The product is inside K where each product of a member of (M) and one of (N) is a member.
     pub Inside-products_from : ((a b : Polynomial) → Member F M a → Member F N b → Member F K (product F a b)) → Inside F (products F M N) K
@@ -185,12 +185,12 @@ module _ {F : Field} (L : IsField F) where
         Inside_map L (InRing-products L X Y) Z (ring_laws.Inside-products_from X.list Y.list Z.list
         (λ a b H G. Member_over L Z ((polynomial_ring L).mul a b).is_polynomial (subst (Member F K) (sym (map_mul L a b)) (f a.map b.map (Member_map L X H) (Member_map L Y G)))))
 
-    pub Equal-trans : Equal F M N → Equal F N K → Equal F M K
-    Equal-trans E G =
+    pub SameIdeal-trans : SameIdeal F M N → SameIdeal F N K → SameIdeal F M K
+    SameIdeal-trans E G =
         let X = in_ring P in
         let Y = in_ring Q in
         let Z = in_ring S in
-        Equal_map L X Z (ring_laws.Equal-trans (Equal_over L X Y E) (Equal_over L Y Z G))
+        SameIdeal_map L X Z (ring_laws.SameIdeal-trans (SameIdeal_over L X Y E) (SameIdeal_over L Y Z G))
 
   module _ {M M' N N' : List Polynomial} (P : ArePolynomials F M) (P' : ArePolynomials F M') (Q : ArePolynomials F N) (Q' : ArePolynomials F N') where
     pub Inside-append_both : Inside F M M' → Inside F N N' → Inside F (M ++ N) (M' ++ N')
@@ -203,15 +203,15 @@ module _ {F : Field} (L : IsField F) where
         Inside-products_from P Q (ArePolynomials-products P' Q') (λ a b H G. Member-products P' Q' (Member-Inside P P' I H) (Member-Inside Q Q' J G))
 
     -- Inclusion depends on the ideals alone.
-    pub Inside-Equal : Equal F M M' → Equal F N N' → Inside F M N → Inside F M' N'
-    Inside-Equal E G I = Inside-trans P' Q Q' (Inside-trans P' P Q E.back I) G.forth
+    pub Inside-SameIdeal : SameIdeal F M M' → SameIdeal F N N' → Inside F M N → Inside F M' N'
+    Inside-SameIdeal E G I = Inside-trans P' Q Q' (Inside-trans P' P Q E.back I) G.forth
 
   module _ {M M' N N' : List Polynomial} (P : ArePolynomials F M) (P' : ArePolynomials F M') (Q : ArePolynomials F N) (Q' : ArePolynomials F N') where
-    pub Equal-append : Equal F M M' → Equal F N N' → Equal F (M ++ N) (M' ++ N')
-    Equal-append E G = record { forth = Inside-append_both P P' Q Q' E.forth G.forth; back = Inside-append_both P' P Q' Q E.back G.back }
+    pub SameIdeal-append : SameIdeal F M M' → SameIdeal F N N' → SameIdeal F (M ++ N) (M' ++ N')
+    SameIdeal-append E G = record { forth = Inside-append_both P P' Q Q' E.forth G.forth; back = Inside-append_both P' P Q' Q E.back G.back }
 
-    pub Equal-products : Equal F M M' → Equal F N N' → Equal F (products F M N) (products F M' N')
-    Equal-products E G = record { forth = Inside-products_both P P' Q Q' E.forth G.forth; back = Inside-products_both P' P Q' Q E.back G.back }
+    pub SameIdeal-products : SameIdeal F M M' → SameIdeal F N N' → SameIdeal F (products F M N) (products F M' N')
+    SameIdeal-products E G = record { forth = Inside-products_both P P' Q Q' E.forth G.forth; back = Inside-products_both P' P Q' Q E.back G.back }
 
   -- The multiples of an ideal by one polynomial.
   module _ {f : Polynomial} (A : IsPolynomial F f) {M : List Polynomial} (P : ArePolynomials F M) where
@@ -234,11 +234,11 @@ module _ {F : Field} (L : IsField F) where
         Inside_map L (InRing-multiples L A X) X (ring_laws.Inside-multiples_self (over A) X.list)
 
     -- The product with the ideal of one polynomial.
-    pub Equal-products_single : Equal F (products F (f ∷ []) M) (multiples F f M)
-    Equal-products_single =
+    pub SameIdeal-products_single : SameIdeal F (products F (f ∷ []) M) (multiples F f M)
+    SameIdeal-products_single =
         let X = in_ring P in
         let Y = InRing-cons A InRing-nil in
-        Equal_map L (InRing-products L Y X) (InRing-multiples L A X) (ring_laws.Equal-products_single (over A) X.list)
+        SameIdeal_map L (InRing-products L Y X) (InRing-multiples L A X) (ring_laws.SameIdeal-products_single (over A) X.list)
 
     module _ {N : List Polynomial} (Q : ArePolynomials F N) where
       pub Inside-multiples : Inside F M N → Inside F (multiples F f M) (multiples F f N)
@@ -247,11 +247,11 @@ module _ {F : Field} (L : IsField F) where
           let Y = in_ring Q in
           Inside_map L (InRing-multiples L A X) (InRing-multiples L A Y) (ring_laws.Inside-multiples (over A) (Inside_over L X Y I))
 
-      pub Equal-multiples : Equal F M N → Equal F (multiples F f M) (multiples F f N)
-      Equal-multiples E =
+      pub SameIdeal-multiples : SameIdeal F M N → SameIdeal F (multiples F f M) (multiples F f N)
+      SameIdeal-multiples E =
           let X = in_ring P in
           let Y = in_ring Q in
-          Equal_map L (InRing-multiples L A X) (InRing-multiples L A Y) (ring_laws.Equal-multiples (over A) (Equal_over L X Y E))
+          SameIdeal_map L (InRing-multiples L A X) (InRing-multiples L A Y) (ring_laws.SameIdeal-multiples (over A) (SameIdeal_over L X Y E))
 
     -- Multiples of multiples.
     pub multiples-multiples : {g : Polynomial} → IsPolynomial F g → multiples F g (multiples F f M) ≡ multiples F (product F g f) M
@@ -277,11 +277,11 @@ module _ {F : Field} (L : IsField F) where
     Inside-one = Inside-from P (λ h H K. Member-all (ArePolynomials-single (IsPolynomial-one L)) (Member-head (ArePolynomials-single (IsPolynomial-one L))) H)
 
     -- 1 is a member exactly where the ideal is the unit ideal.
-    pub Equal-one : Member F M (term 1 origin) ↔ Equal F M (term 1 origin ∷ [])
-    Equal-one = (λ U. record { forth = Inside-one; back = Inside-single U }, λ E. Inside-head E.back)
+    pub SameIdeal-one : Member F M (term 1 origin) ↔ SameIdeal F M (term 1 origin ∷ [])
+    SameIdeal-one = (λ U. record { forth = Inside-one; back = Inside-single U }, λ E. Inside-head E.back)
 
-    pub Equal-products_one : Equal F (products F (term 1 origin ∷ []) M) M
-    Equal-products_one =
+    pub SameIdeal-products_one : SameIdeal F (products F (term 1 origin ∷ []) M) M
+    SameIdeal-products_one =
         let X = in_ring P in
         let Y : InRing F (term 1 origin ∷ []) = record { list = (polynomial_ring L).one ∷ []; are = ap (λ f. f ∷ []) (map_one L) } in
-        Equal_map L (InRing-products L Y X) X (ring_laws.Equal-products_one X.list)
+        SameIdeal_map L (InRing-products L Y X) X (ring_laws.SameIdeal-products_one X.list)

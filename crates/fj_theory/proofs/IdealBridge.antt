@@ -8,7 +8,7 @@ use Rattle.fj_algebra.specs.Frobenius as ring_frobenius
 use Rattle.fj_algebra.proofs.Lists.{All-map_back}
 use Rattle.fj_theory.specs.Polynomial.{Polynomial, IsPolynomial, sum, term}
 use Rattle.fj_theory.specs.Exponents.{origin}
-use Rattle.fj_theory.specs.Ideal.{ArePolynomials, combination, list_combination, Member, Inside, Equal, multiples, products}
+use Rattle.fj_theory.specs.Ideal.{ArePolynomials, combination, list_combination, Member, Inside, SameIdeal, multiples, products}
 use Rattle.fj_theory.specs.FrobeniusPower.{frobenius_power}
 use Rattle.fj_theory.proofs.Exponents.{IsExponents-origin}
 use Rattle.fj_theory.proofs.Field.{one_below}
@@ -125,11 +125,11 @@ module _ {F : Field} (L : IsField F) where
     }
 
   module _ {M N : List Polynomial} (X : InRing F M) (Y : InRing F N) where
-    pub Equal_map : ring_ideal.Equal (polynomial_ring L) X.list Y.list → Equal F M N
-    Equal_map E = record { forth = Inside_map X Y E.forth; back = Inside_map Y X E.back }
+    pub SameIdeal_map : ring_ideal.SameIdeal (polynomial_ring L) X.list Y.list → SameIdeal F M N
+    SameIdeal_map E = record { forth = Inside_map X Y E.forth; back = Inside_map Y X E.back }
 
-    pub Equal_over : Equal F M N → ring_ideal.Equal (polynomial_ring L) X.list Y.list
-    Equal_over E = record { forth = Inside_over X Y E.forth; back = Inside_over Y X E.back }
+    pub SameIdeal_over : SameIdeal F M N → ring_ideal.SameIdeal (polynomial_ring L) X.list Y.list
+    SameIdeal_over E = record { forth = Inside_over X Y E.forth; back = Inside_over Y X E.back }
 
   -- The combination with a list of cofactors.
   pub list_combination_map : (cs M : List (PolynomialOver F)) → (ring_ideal.list_combination (polynomial_ring L) cs M).map ≡ list_combination F (maps cs) (maps M)

@@ -1,18 +1,18 @@
 -- The operations on ideals depend on the ideals alone, and cofactors show that one ideal is inside another.
 use Rattle.std.proofs.Common.{◌≡◌, ◌↔◌, List, [], ◌∷◌, sym, subst}
 use Rattle.fj_coeff.specs.Field.{Field, IsField}
-use Rattle.fj_theory.specs.Ideal.{ArePolynomials, list_combination, Member, Inside, Equal}
+use Rattle.fj_theory.specs.Ideal.{ArePolynomials, list_combination, Member, Inside, SameIdeal}
 use Rattle.fj_theory.specs.Polynomial.{Polynomial}
 use Rattle.fj_theory.specs.Rows.{IsRow, AreRows}
 use Rattle.fj_theory.proofs.Ideal.{Inside-nil, Inside-cons}
-pub use Rattle.fj_theory.proofs.Ideal.{ArePolynomials-append, ArePolynomials-products, Inside-refl, Inside-trans, Equal-refl, Equal-sym, Equal-trans, Member-Inside, Member-from_list, Inside-append, Inside-append_both, Equal-append, Inside-products_both, Equal-products}
-pub use Rattle.fj_theory.proofs.FrobeniusPower.{ArePolynomials-frobenius_power, Inside-frobenius_power, Equal-frobenius_power}
-pub use Rattle.fj_theory.proofs.Root.{IsRoot-Equal, IsRoot-Equal_root}
+pub use Rattle.fj_theory.proofs.Ideal.{ArePolynomials-append, ArePolynomials-products, Inside-refl, Inside-trans, SameIdeal-refl, SameIdeal-sym, SameIdeal-trans, Member-Inside, Member-from_list, Inside-append, Inside-append_both, SameIdeal-append, Inside-products_both, SameIdeal-products}
+pub use Rattle.fj_theory.proofs.FrobeniusPower.{ArePolynomials-frobenius_power, Inside-frobenius_power, SameIdeal-frobenius_power}
+pub use Rattle.fj_theory.proofs.Root.{IsRoot-SameIdeal, IsRoot-SameIdeal_root}
 
 module _ {F : Field} (L : IsField F) where
   -- Equal ideals have the same members.
-  pub Member-Equal : {M N : List Polynomial} → ArePolynomials F M → ArePolynomials F N → Equal F M N → {h : Polynomial} → Member F M h ↔ Member F N h
-  Member-Equal P Q E = (Member-Inside L P Q E.forth, Member-Inside L Q P E.back)
+  pub Member-SameIdeal : {M N : List Polynomial} → ArePolynomials F M → ArePolynomials F N → SameIdeal F M N → {h : Polynomial} → Member F M h ↔ Member F N h
+  Member-SameIdeal P Q E = (Member-Inside L P Q E.forth, Member-Inside L Q P E.back)
 
   module _ {M : List Polynomial} (P : ArePolynomials F M) where
     -- What is a combination of the list with cofactors is a member.
@@ -31,6 +31,6 @@ module _ {F : Field} (L : IsField F) where
     Inside-AreRows (g ∷ N) (row ∷ rows) all = Inside-cons (Member-IsRow all.0) (Inside-AreRows N rows all.1)
 
   -- Rows both ways show that two lists generate one ideal.
-  pub Equal-AreRows : {M N : List Polynomial} → ArePolynomials F M → ArePolynomials F N → (rows cofactors : List (List Polynomial)) → AreRows F N M rows → AreRows F M N cofactors
-      → Equal F M N
-  Equal-AreRows {M} {N} P Q rows cofactors forth back = record { forth = Inside-AreRows Q M rows forth; back = Inside-AreRows P N cofactors back }
+  pub SameIdeal-AreRows : {M N : List Polynomial} → ArePolynomials F M → ArePolynomials F N → (rows cofactors : List (List Polynomial)) → AreRows F N M rows → AreRows F M N cofactors
+      → SameIdeal F M N
+  SameIdeal-AreRows {M} {N} P Q rows cofactors forth back = record { forth = Inside-AreRows Q M rows forth; back = Inside-AreRows P N cofactors back }

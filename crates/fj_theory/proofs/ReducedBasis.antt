@@ -18,7 +18,7 @@ use Rattle.fj_algebra.proofs.ReducedBasis as laws
 use Rattle.fj_theory.specs.Exponents.{IsExponents, origin, divides}
 use Rattle.fj_theory.specs.MonomialOrder.{IsMonomialOrder, IsRising, compare_by}
 use Rattle.fj_theory.specs.Polynomial.{Polynomial, IsPolynomial, coefficient, term}
-use Rattle.fj_theory.specs.Ideal.{ArePolynomials, Member, Equal}
+use Rattle.fj_theory.specs.Ideal.{ArePolynomials, Member, SameIdeal}
 use Rattle.fj_theory.specs.Lead.{lead_exponents, lead_coefficient}
 use Rattle.fj_theory.specs.ReducedBasis.{LeadDivides, IsFreeOf, AreReduced, IsReducedBasis}
 use Rattle.fj_theory.proofs.MonomialOrder.{compare_by_total}
@@ -26,8 +26,8 @@ use Rattle.fj_theory.proofs.Polynomial.{get-coefficient}
 use Rattle.fj_theory.proofs.Field.{Element, element_equal, field_ring, rank_zero, rank_one}
 use Rattle.fj_theory.proofs.PolynomialRing.{PolynomialOver, over_equal, polynomial_ring, map_zero, map_one}
 use Rattle.fj_theory.proofs.OrderedPolynomials.{Exponents, monomials, monomial_order, scalars, coefficient_at, polynomials, ordered_polynomials}
-use Rattle.fj_theory.proofs.IdealBridge.{IsPolynomial-one, InRing-nil, over, maps, InRing, InRing-maps, in_ring, ArePolynomials-maps, Member_polynomial, Member_map, Member_over, Inside_map, Inside_over, Equal_map, Equal_over}
-use Rattle.fj_theory.proofs.Ideal.{Equal-trans, Equal-sym}
+use Rattle.fj_theory.proofs.IdealBridge.{IsPolynomial-one, InRing-nil, over, maps, InRing, InRing-maps, in_ring, ArePolynomials-maps, Member_polynomial, Member_map, Member_over, Inside_map, Inside_over, SameIdeal_map, SameIdeal_over}
+use Rattle.fj_theory.proofs.Ideal.{SameIdeal-trans, SameIdeal-sym}
 use Rattle.fj_theory.proofs.Lead.{lead_at, IsLead-from_lead, lead_from_IsLead, nonzero_map, coefficient-lead, nonzero-lead_coefficient, Divides-from_divides, divides-from_Divides}
 
 -- Pairs of the list behind a map.
@@ -193,12 +193,12 @@ module _ {key : List ℕ → List ℕ} (K : IsMonomialOrder key) {F : Field} (L 
 
   module _ {M : List Polynomial} (A : ArePolynomials F M) where
     -- A reduced basis generates the ideal.
-    pub IsReducedBasis-Equal : {N : List Polynomial} → IsReducedBasis F key M N → Equal F M N
+    pub IsReducedBasis-SameIdeal : {N : List Polynomial} → IsReducedBasis F key M N → SameIdeal F M N
     unfolding ordered_polynomials polynomials
-    IsReducedBasis-Equal B =
+    IsReducedBasis-SameIdeal B =
         let X = in_ring A in
         let Y = in_ring (IsReducedBasis_polynomials A B) in
-        Equal_map L X Y (laws.reduced_basis_generates P (IsReducedBasis_over X Y B))
+        SameIdeal_map L X Y (laws.reduced_basis_generates P (IsReducedBasis_over X Y B))
 
     -- The reduced basis is (1) exactly where 1 is in the ideal.
     pub IsReducedBasis-one : IsReducedBasis F key M (term 1 origin ∷ []) ↔ Member F M (term 1 origin)
@@ -227,28 +227,28 @@ module _ {key : List ℕ → List ℕ} (K : IsMonomialOrder key) {F : Field} (L 
 
   module _ {M N : List Polynomial} (A : ArePolynomials F M) (B : ArePolynomials F N) where
     -- Lists of one ideal have one reduced basis.
-    pub IsReducedBasis-unique : {G H : List Polynomial} → Equal F M N → IsReducedBasis F key M G → IsReducedBasis F key N H → G ≡ H
+    pub IsReducedBasis-unique : {G H : List Polynomial} → SameIdeal F M N → IsReducedBasis F key M G → IsReducedBasis F key N H → G ≡ H
     unfolding ordered_polynomials polynomials
     IsReducedBasis-unique E S T =
         let X = in_ring A in
         let Y = in_ring B in
         let U = in_ring (IsReducedBasis_polynomials A S) in
         let V = in_ring (IsReducedBasis_polynomials B T) in
-        sym U.are ∙ ap maps (laws.reduced_basis_unique P (Equal_over L X Y E) (IsReducedBasis_over X U S) (IsReducedBasis_over Y V T)) ∙ V.are
+        sym U.are ∙ ap maps (laws.reduced_basis_unique P (SameIdeal_over L X Y E) (IsReducedBasis_over X U S) (IsReducedBasis_over Y V T)) ∙ V.are
 
     -- A reduced basis depends on the ideal alone.
-    pub IsReducedBasis-same_ideal : {G : List Polynomial} → Equal F M N → IsReducedBasis F key M G → IsReducedBasis F key N G
+    pub IsReducedBasis-same_ideal : {G : List Polynomial} → SameIdeal F M N → IsReducedBasis F key M G → IsReducedBasis F key N G
     unfolding ordered_polynomials polynomials
     IsReducedBasis-same_ideal E S =
         let X = in_ring A in
         let Y = in_ring B in
         let U = in_ring (IsReducedBasis_polynomials A S) in
-        IsReducedBasis_map Y U (laws.reduced_basis_same_ideal P (Equal_over L X Y E) (IsReducedBasis_over X U S))
+        IsReducedBasis_map Y U (laws.reduced_basis_same_ideal P (SameIdeal_over L X Y E) (IsReducedBasis_over X U S))
 
     -- Two ideals are equal exactly where their reduced bases are.
-    pub Equal-IsReducedBasis : {G H : List Polynomial} → IsReducedBasis F key M G → IsReducedBasis F key N H → Equal F M N ↔ (G ≡ H)
+    pub SameIdeal-IsReducedBasis : {G H : List Polynomial} → IsReducedBasis F key M G → IsReducedBasis F key N H → SameIdeal F M N ↔ (G ≡ H)
     unfolding ordered_polynomials polynomials
-    Equal-IsReducedBasis {G} {H} S T = (
+    SameIdeal-IsReducedBasis {G} {H} S T = (
       λ E. IsReducedBasis-unique E S T,
-      λ e. Equal-trans L A (IsReducedBasis_polynomials A S) B (IsReducedBasis-Equal A S) (subst (λ g. Equal F g N) (sym e) (Equal-sym (IsReducedBasis-Equal B T))),
+      λ e. SameIdeal-trans L A (IsReducedBasis_polynomials A S) B (IsReducedBasis-SameIdeal A S) (subst (λ g. SameIdeal F g N) (sym e) (SameIdeal-sym (IsReducedBasis-SameIdeal B T))),
     )

@@ -5,16 +5,16 @@ use Rattle.fj_coeff.specs.Field.{Field, IsField}
 use Rattle.fj_algebra.specs.Root as ring_root
 use Rattle.fj_algebra.proofs.Root as ring_laws
 use Rattle.fj_theory.specs.Polynomial.{Polynomial}
-use Rattle.fj_theory.specs.Ideal.{ArePolynomials, Inside, Equal}
+use Rattle.fj_theory.specs.Ideal.{ArePolynomials, Inside, SameIdeal}
 use Rattle.fj_theory.specs.FrobeniusPower.{frobenius_power}
 use Rattle.fj_theory.specs.Root.{IsRoot}
 use Rattle.fj_theory.proofs.PolynomialRing.{polynomial_ring}
-use Rattle.fj_theory.proofs.IdealBridge.{ArePolynomials-nil, maps, in_ring, InRing, InRing-maps, Inside_map, Inside_over, Equal_over, ArePolynomials-InRing, ArePolynomials-maps, InRing-append, InRing-frobenius_power}
+use Rattle.fj_theory.proofs.IdealBridge.{ArePolynomials-nil, maps, in_ring, InRing, InRing-maps, Inside_map, Inside_over, SameIdeal_over, ArePolynomials-InRing, ArePolynomials-maps, InRing-append, InRing-frobenius_power}
 use Rattle.fj_theory.proofs.Ideal.{Inside-nil}
 use Rattle.fj_theory.proofs.Frobenius.{polynomial-IsFrobenius}
 
 -- Two roots of one list are one ideal.
-pub IsRoot-unique : {F : Field} {q : ℕ} {M N K : List Polynomial} → IsRoot F q M N → IsRoot F q M K → Equal F N K
+pub IsRoot-unique : {F : Field} {q : ℕ} {M N K : List Polynomial} → IsRoot F q M N → IsRoot F q M K → SameIdeal F N K
 IsRoot-unique {N} {K} X Y = record { forth = X.least K Y.polynomials Y.inside; back = Y.least N X.polynomials X.inside }
 
 -- The root of the empty list.
@@ -58,21 +58,21 @@ module _ {F : Field} (L : IsField F) where
         Inside_map L Y Y' (ring_laws.Root-monotone (Inside_over L X X' I) (Root_over X Y S) (Root_over X' Y' T))
 
     -- The root depends on the ideal alone.
-    pub IsRoot-Equal : {N : List Polynomial} → Equal F M M' → IsRoot F q M N → IsRoot F q M' N
-    IsRoot-Equal E S =
+    pub IsRoot-SameIdeal : {N : List Polynomial} → SameIdeal F M M' → IsRoot F q M N → IsRoot F q M' N
+    IsRoot-SameIdeal E S =
         let X = in_ring P in
         let X' = in_ring P' in
         let Y = in_ring S.polynomials in
-        Root_map X' Y (ring_laws.Root-Equal (Equal_over L X X' E) (Root_over X Y S))
+        Root_map X' Y (ring_laws.Root-SameIdeal (SameIdeal_over L X X' E) (Root_over X Y S))
 
   module _ (e : ℕ) {M N : List Polynomial} (P : ArePolynomials F M) (S : IsRoot F (F.characteristic ^ e) M N) where
     -- A list that generates the root is the root.
-    pub IsRoot-Equal_root : {N' : List Polynomial} → ArePolynomials F N' → Equal F N N' → IsRoot F (F.characteristic ^ e) M N'
-    IsRoot-Equal_root Q E =
+    pub IsRoot-SameIdeal_root : {N' : List Polynomial} → ArePolynomials F N' → SameIdeal F N N' → IsRoot F (F.characteristic ^ e) M N'
+    IsRoot-SameIdeal_root Q E =
         let X = in_ring P in
         let Y = in_ring S.polynomials in
         let Y' = in_ring Q in
-        Root_map X Y' (ring_laws.Root-Equal_root (polynomial-IsFrobenius L e) (Equal_over L Y Y' E) (Root_over X Y S))
+        Root_map X Y' (ring_laws.Root-SameIdeal_root (polynomial-IsFrobenius L e) (SameIdeal_over L Y Y' E) (Root_over X Y S))
 
     -- The adjunction: the root is inside (K) exactly where the list is inside (K^[q]).
     pub Inside-IsRoot : {K : List Polynomial} → ArePolynomials F K → Inside F N K ↔ Inside F M (frobenius_power F (F.characteristic ^ e) K)

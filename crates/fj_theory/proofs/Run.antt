@@ -24,7 +24,7 @@ use Rattle.fj_algebra.proofs.Pairs.{contains_map, contains_map_back, contains_fi
 use Rattle.fj_theory.specs.Exponents.{origin, minus, least_common_multiple}
 use Rattle.fj_theory.specs.MonomialOrder.{IsMonomialOrder}
 use Rattle.fj_theory.specs.Polynomial.{Polynomial, IsPolynomial, term, product}
-use Rattle.fj_theory.specs.Ideal.{ArePolynomials, Member, Equal}
+use Rattle.fj_theory.specs.Ideal.{ArePolynomials, Member, SameIdeal}
 use Rattle.fj_theory.specs.ReducedBasis.{LeadDivides}
 use Rattle.fj_theory.specs.Steps.{StepsTo}
 use Rattle.fj_theory.specs.Lead.{lead_exponents, lead_coefficient, made_monic}
@@ -34,7 +34,7 @@ use Rattle.fj_theory.proofs.Exponents.{plus_comm, plus-minus, IsExponents-minus}
 use Rattle.fj_theory.proofs.Field.{Element, element_equal, field_ring, rank_zero, rank_one, rank_mul}
 use Rattle.fj_theory.proofs.PolynomialRing.{PolynomialOver, over_equal, polynomial_ring, map_zero, map_mul}
 use Rattle.fj_theory.proofs.OrderedPolynomials.{Exponents, exponents_equal, times, monomials, scalars, coefficient_at, term_at, polynomials, ordered_polynomials}
-use Rattle.fj_theory.proofs.IdealBridge.{over, maps, InRing, in_ring, ArePolynomials-InRing, Equal_map, Member_over, Member_polynomial}
+use Rattle.fj_theory.proofs.IdealBridge.{over, maps, InRing, in_ring, ArePolynomials-InRing, SameIdeal_map, Member_over, Member_polynomial}
 use Rattle.fj_theory.proofs.Lead.{is_zero_map, lead_at, IsLead-from_lead, lead_from_IsLead, coefficient-lead, lead_coefficient-nonzero, divides-from_Divides}
 use Rattle.fj_theory.proofs.ReducedBasis.{LeadDivides-from_IsReducible, IsMonic-from_lead, lead-from_IsMonic, monic_nonzero}
 use Rattle.fj_theory.proofs.Elimination.{filter-map}
@@ -435,12 +435,12 @@ module _ {key : List ℕ → List ℕ} (K : IsMonomialOrder key) {F : Field} (L 
       (subst (λ m. StepsTo (IsTurn F key) (run_start F key m) r.states s) (sym X.are) r.steps) (start_kept X.list)
 
   -- The members of a state of a run generate the ideal.
-  pub IsRun-Equal : {M : List Polynomial} → ArePolynomials F M → {turns : ℕ} {s : Run} → IsRun F key M turns s → Equal F M (polynomials_of s.members)
+  pub IsRun-SameIdeal : {M : List Polynomial} → ArePolynomials F M → {turns : ℕ} {s : Run} → IsRun F key M turns s → SameIdeal F M (polynomials_of s.members)
   unfolding ordered_polynomials polynomials
-  IsRun-Equal A r =
+  IsRun-SameIdeal A r =
       let X = in_ring A in
       let kept = IsRun-IsKept X r in
-      Equal_map L X kept.over (record { forth = kept.generates; back = kept.inside })
+      SameIdeal_map L X kept.over (record { forth = kept.generates; back = kept.inside })
 
   -- They are polynomials and monic.
   pub IsRun-polynomials : {M : List Polynomial} → ArePolynomials F M → {turns : ℕ} {s : Run} → IsRun F key M turns s → ArePolynomials F (polynomials_of s.members)

@@ -4,7 +4,7 @@ use Rattle.std.specs.FinMap.{empty}
 use Rattle.fj_coeff.specs.Field.{Field, IsField}
 use Rattle.fj_theory.specs.MonomialOrder.{IsMonomialOrder, elim_key, grevlex_key}
 use Rattle.fj_theory.specs.Polynomial.{Polynomial}
-use Rattle.fj_theory.specs.Ideal.{ArePolynomials, Member, Equal}
+use Rattle.fj_theory.specs.Ideal.{ArePolynomials, Member, SameIdeal}
 use Rattle.fj_theory.specs.Colon.{IsMeet}
 use Rattle.fj_theory.specs.PointIdeal.{UsesFirst}
 use Rattle.fj_theory.specs.Lead.{lead_exponents, lead_coefficient}
@@ -18,7 +18,7 @@ use Rattle.fj_theory.specs.Elimination.{elimination_list, without_eighth}
 abbrev pub OneReducedBasis : Type 0
 OneReducedBasis =
     (F : Field) → IsField F → (key : List ℕ → List ℕ) → IsMonomialOrder key → (L M G H : List Polynomial) → ArePolynomials F L → ArePolynomials F M
-    → Equal F L M → IsReducedBasis F key L G → IsReducedBasis F key M H → G ≡ H
+    → SameIdeal F L M → IsReducedBasis F key L G → IsReducedBasis F key M H → G ≡ H
 
 -- Buchberger's criterion: where each pair of a monic list is settled, the lead of each nonzero member of its ideal is
 -- divided by the lead of one of the list.

@@ -1,21 +1,15 @@
 -- Certificates: identities over GF(p) by which an answer can be checked apart from the run that found it.
 use Rattle.std.specs.Prelude.{◌≡◌, ℕ, ◌<◌, ◌≤◌, ◌^◌, List, [], ◌∷◌, All, Contains, length, map, zip}
-use Rattle.std.specs.FinMap.{empty}
 use Rattle.fj_coeff.specs.Field.{Field, primes}
 use Rattle.fj_coeff.specs.PrimeField.{prime_field}
-use Rattle.fj_theory.specs.Polynomial.{Polynomial, sum, product, power}
+use Rattle.fj_theory.specs.Ideal.{list_combination}
+use Rattle.fj_theory.specs.Polynomial.{Polynomial, power}
 use Rattle.fj_theory.specs.Plain.{PlainPolynomial, polynomial, HasRanksBelow}
-
--- The sum of the products of the polynomials at equal places of two lists.
-unfoldable pub combination : Field → List Polynomial → List Polynomial → Polynomial
-combination F [] gs = empty
-combination F (f ∷ fs) [] = empty
-combination F (f ∷ fs) (g ∷ gs) = sum F (product F f g) (combination F fs gs)
 
 -- f is the sum over j of row_j * source_j.
 pub record IsRowOf (p : ℕ) (sources : List PlainPolynomial) (f : PlainPolynomial) (row : List PlainPolynomial) : Type 0 where
   pub fitting : length row ≡ length sources
-  pub identity : polynomial f ≡ combination (prime_field p) (map polynomial row) (map polynomial sources)
+  pub identity : polynomial f ≡ list_combination (prime_field p) (map polynomial row) (map polynomial sources)
 
 -- Each target is the sum over j of row_j * source_j, by its own row of the table.
 pub record IsExpressed (p : ℕ) (targets : List PlainPolynomial) (table : List (List PlainPolynomial)) (sources : List PlainPolynomial) : Type 0 where
@@ -49,7 +43,7 @@ pub record IsResidue (q : ℕ) (f : PlainPolynomial) : Type 0 where
 pub record HasParts (p q : ℕ) (f : PlainPolynomial) (residues parts : List PlainPolynomial) : Type 0 where
   pub fitting : length residues ≡ length parts
   pub are_residues : All (IsResidue q) residues
-  pub identity : polynomial f ≡ combination (prime_field p) (map polynomial residues) (map (λ g. power (prime_field p) (polynomial g) q) parts)
+  pub identity : polynomial f ≡ list_combination (prime_field p) (map polynomial residues) (map (λ g. power (prime_field p) (polynomial g) q) parts)
 
 -- Each member of the list is the sum of its parts over p^e-th powers, by its rows of the two tables.
 pub record IsRootCertificate (p e : ℕ) (members : List PlainPolynomial) (residues parts : List (List PlainPolynomial)) : Type 0 where

@@ -5,12 +5,12 @@ use Rattle.std.specs.Int.{IsGcd}
 use Rattle.fj_theory.specs.Fraction.{Fraction, IsLowest, ceil_times}
 
 -- N_e = ceil(t*p^e) - 1.
-unfoldable pub truncation : ℕ → Fraction → ℕ → ℕ
-truncation p t e = ceil_times t (p ^ e) - 1
+unfoldable pub ceiling_less_one : ℕ → Fraction → ℕ → ℕ
+ceiling_less_one p t e = ceil_times t (p ^ e) - 1
 
 -- The digit at a place, counted from 0: d with N_(e+1) = p*N_e + d.
 unfoldable pub digit : ℕ → Fraction → ℕ → ℕ
-digit p t e = truncation p t (e + 1) - p * truncation p t e
+digit p t e = ceiling_less_one p t (e + 1) - p * ceiling_less_one p t e
 
 -- The digits from a place on, as many as the count, the most significant first.
 unfoldable pub digits : ℕ → Fraction → ℕ → ℕ → List ℕ
@@ -50,6 +50,6 @@ pub record IsExpansion (p : ℕ) (t : Fraction) (d : Expansion) : Type 0 where
   pub period : d.period ≡ digits p t (length d.pre) (length d.period)
 
 -- a*(1 + q + .. + q^(k-1)), the number with the digit a written k times in base q.
-unfoldable pub repeated : ℕ → ℕ → ℕ → ℕ
-repeated q a zero = 0
-repeated q a (suc k) = q ^ k * a + repeated q a k
+unfoldable pub repeated_value : ℕ → ℕ → ℕ → ℕ
+repeated_value q a zero = 0
+repeated_value q a (suc k) = q ^ k * a + repeated_value q a k

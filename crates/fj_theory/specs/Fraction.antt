@@ -1,5 +1,5 @@
 -- Nonnegative fractions, their order by value, and the least whole number not below a multiple of one.
-use Rattle.std.specs.Prelude.{◌≡◌, ℕ, ◌*◌, ◌<◌, ◌≤◌}
+use Rattle.std.specs.Prelude.{◌≡◌, ℕ, ◌+◌, ◌*◌, ◌<◌, ◌≤◌}
 use Rattle.std.specs.Int.{IsGcd, div_ceil}
 use Rattle.std.specs.Ordering.{nat_cmp}
 use Rattle.std.specs.declared.cmp.Ordering.{Ordering}
@@ -17,6 +17,14 @@ IsLowest t = IsGcd t.numerator t.denominator 1
 -- Two fractions are one rational number.
 abbrev pub SameValue : Fraction → Fraction → Type 0
 SameValue s t = s.numerator * t.denominator ≡ t.numerator * s.denominator
+
+-- s <= t by value.
+abbrev pub IsAtMost : Fraction → Fraction → Type 0
+IsAtMost s t = s.numerator * t.denominator ≤ t.numerator * s.denominator
+
+-- The fraction t + k.
+abbrev pub plus_whole : Fraction → ℕ → Fraction
+plus_whole t k = record { numerator = t.numerator + k * t.denominator; denominator = t.denominator; positive = t.positive }
 
 -- The order by value.
 abbrev pub compare : Fraction → Fraction → Ordering

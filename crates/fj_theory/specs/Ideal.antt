@@ -31,7 +31,7 @@ pub record Inside (F : Field) (L M : List Polynomial) : Type 0 where
   pub each : All (Member F M) L
 
 -- (L) and (M) are one ideal: each is inside the other.
-pub record Equal (F : Field) (L M : List Polynomial) : Type 0 where
+pub record SameIdeal (F : Field) (L M : List Polynomial) : Type 0 where
   pub forth : Inside F L M
   pub back : Inside F M L
 

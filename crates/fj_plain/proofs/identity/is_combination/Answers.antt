@@ -2,9 +2,9 @@ use Rattle.std.proofs.Common.{◌≡◌, ◌≤◌, List, length, map, subst, sy
 use Rattle.std.proofs.lemmas.List.{length-map}
 use Rattle.fj_coeff.specs.PrimeField.{prime_field}
 use Rattle.fj_coeff.specs.PrimeFieldLaws.{IsField-prime_field}
+use Rattle.fj_theory.specs.Ideal.{list_combination}
 use Rattle.fj_theory.specs.Polynomial.{Polynomial, IsPolynomial, sum, negation}
 use Rattle.fj_theory.specs.Plain.{polynomial, HasRanksBelow}
-use Rattle.fj_theory.specs.Certificate.{combination}
 use Rattle.fj_theory.proofs.Polynomial.{IsPolynomial-empty}
 use Rattle.fj_theory.proofs.Plain.{IsPolynomial-polynomial}
 use Rattle.fj_theory.proofs.PlainProduct.{sum-nothing}
@@ -20,7 +20,7 @@ loop-i-init c =
     (IsPolynomial-list c.requires.prime c.args.row.now c.requires.row) (IsPolynomial-list c.requires.prime c.args.sources.now c.requires.sources) in
     record {
       over = subst (IsPolynomial F) (sym c.new-difference.ensures) (IsPolynomial-empty F);
-      whole = ap (λ f. sum F f (combination F (map polynomial c.args.row.now) (map polynomial c.args.sources.now))) c.new-difference.ensures ∙ sum-nothing c.requires.prime C;
+      whole = ap (λ f. sum F f (list_combination F (map polynomial c.args.row.now) (map polynomial c.args.sources.now))) c.new-difference.ensures ∙ sum-nothing c.requires.prime C;
     }
 
 pub add_product-requires-clause-first : goal.add_product-requires-clause-first
@@ -50,7 +50,7 @@ returns c =
     let C = IsPolynomial-combination L fs gs (IsPolynomial-list c.requires.prime c.args.row.now c.requires.row) (IsPolynomial-list c.requires.prime c.args.sources.now c.requires.sources) in
     let short : length fs ≤ c.loop-i.i = let e = length-map c.args.row.now polynomial in omega (arith, c.len-i-end.ensures) in
     let whole = combination_all L fs gs c.loop-i.i short c.loop-i.difference _ c.loop-i.invariant.over c.loop-i.invariant.whole in
-    let last : c.subtract.new.self ≡ sum F (combination F fs gs) (negation F (polynomial c.args.f.now)) = c.in_ok-subtract.ensures ∙ ap (λ h. sum F h (negation F (polynomial c.args.f.now))) whole in
+    let last : c.subtract.new.self ≡ sum F (list_combination F fs gs) (negation F (polynomial c.args.f.now)) = c.in_ok-subtract.ensures ∙ ap (λ h. sum F h (negation F (polynomial c.args.f.now))) whole in
     let fitting : length c.args.row.now ≡ length c.args.sources.now = sym c.len.ensures ∙ c.if-len.false ∙ c.len-2.ensures in (
       λ yes. record { fitting = fitting; identity = equal_from_difference L P C (sym last ∙ c.is_zero.ensures.0 yes) },
       λ R. c.is_zero.ensures.1 (last ∙ difference_of_equal L P R.identity),

@@ -3,9 +3,10 @@ use Rattle.std.proofs.lemmas.Bool.{true≢false}
 use Rattle.std.proofs.lemmas.List.{length-map}
 use Rattle.fj_coeff.specs.PrimeField.{prime_field}
 use Rattle.fj_coeff.specs.PrimeFieldLaws.{IsField-prime_field}
+use Rattle.fj_theory.specs.Ideal.{list_combination}
 use Rattle.fj_theory.specs.Polynomial.{Polynomial, IsPolynomial, sum, product, power, negation}
 use Rattle.fj_theory.specs.Plain.{PlainPolynomial, polynomial, HasRanksBelow}
-use Rattle.fj_theory.specs.Certificate.{combination, IsResidue}
+use Rattle.fj_theory.specs.Certificate.{IsResidue}
 use Rattle.fj_theory.proofs.Polynomial.{IsPolynomial-empty}
 use Rattle.fj_theory.proofs.Plain.{IsPolynomial-polynomial, rank_below_at}
 use Rattle.fj_theory.proofs.PlainProduct.{sum-nothing}
@@ -24,7 +25,7 @@ loop-i-init c =
     record {
       residues = EachBefore-zero (IsResidue c.args.q) c.args.residues.now;
       over = subst (IsPolynomial F) (sym c.new-difference.ensures) (IsPolynomial-empty F);
-      whole = ap (λ f. sum F f (combination F fs gs)) c.new-difference.ensures ∙ sum-nothing c.requires.prime C;
+      whole = ap (λ f. sum F f (list_combination F fs gs)) c.new-difference.ensures ∙ sum-nothing c.requires.prime C;
     }
 
 pub returns-then-not-is_residue : goal.returns-then-not-is_residue
@@ -71,7 +72,7 @@ returns c =
     let all_residues : length c.args.residues.now ≤ c.loop-i.i = omega (arith, c.len-i-end.ensures) in
     let short : length fs ≤ c.loop-i.i = let e = length-map c.args.residues.now polynomial in omega arith in
     let whole = combination_all L fs gs c.loop-i.i short c.loop-i.difference _ c.loop-i.invariant.over c.loop-i.invariant.whole in
-    let last : c.subtract.new.self ≡ sum F (combination F fs gs) (negation F (polynomial c.args.f.now)) = c.in_ok-subtract.ensures ∙ ap (λ h. sum F h (negation F (polynomial c.args.f.now))) whole in
+    let last : c.subtract.new.self ≡ sum F (list_combination F fs gs) (negation F (polynomial c.args.f.now)) = c.in_ok-subtract.ensures ∙ ap (λ h. sum F h (negation F (polynomial c.args.f.now))) whole in
     let fitting : length c.args.residues.now ≡ length c.args.parts.now = sym c.len.ensures ∙ c.if-len.false ∙ c.len-2.ensures in (
       λ yes. record {
         fitting = fitting;

@@ -1,7 +1,7 @@
 use Rattle.std.proofs.Common.{◌≡◌, inl, inr, sym, subst, refl}
 use Rattle.std.specs.Prelude.{MatchOption}
-use Rattle.fj_theory.specs.Ideal.{Equal}
-use Rattle.fj_theory.proofs.Ideal.{Equal-refl}
+use Rattle.fj_theory.specs.Ideal.{SameIdeal}
+use Rattle.fj_theory.proofs.Ideal.{SameIdeal-refl}
 use Rattle.fj_ideal.specs.Ideal.{IsIdealOf}
 use Rattle.fj_script.specs.declared.question.Question.TheVariants as questions
 use Rattle.fj_session.specs.Named.{ideal_at}
@@ -23,4 +23,4 @@ returns-clause-verdict g c =
     let F = g.K.Coeff.field in
     let env = c.args.env.now in
     let same : c.args.k ≡ c.args.j = subst (λ o. MatchOption o (c.args.k ≡ c.args.j) (IsIdealOf F (ideal_at env c.args.k))) c.in-None.is c.in_ok-second.ensures.ideal in
-    subst (λ n. Equal F (ideal_at env c.args.j) (ideal_at env n)) (sym same) (Equal-refl g.met.K.Coeff.lawful (polynomials_of_list c.in_ok-first.ensures.ideal))
+    subst (λ n. SameIdeal F (ideal_at env c.args.j) (ideal_at env n)) (sym same) (SameIdeal-refl g.met.K.Coeff.lawful (polynomials_of_list c.in_ok-first.ensures.ideal))

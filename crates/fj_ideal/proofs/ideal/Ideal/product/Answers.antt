@@ -1,12 +1,12 @@
 use Rattle.std.proofs.Common.{◌≡◌, ◌∙◌, List, Any, IfOk, sym, ap₂, subst}
 use Rattle.std.proofs.lemmas.Result.{IfOk-weaker, err_from_is_err_and}
-use Rattle.fj_theory.specs.Ideal.{Equal, products}
+use Rattle.fj_theory.specs.Ideal.{SameIdeal, products}
 use Rattle.fj_theory.specs.Polynomial.{Polynomial}
 use Rattle.fj_poly.specs.Limit.{IsHigh}
 use Rattle.fj_ideal.specs.Ideal.{IsIdealOf}
 use Rattle.fj_ideal.specs.Stop.{StopsAsRun, StopsAsProducts}
 use Rattle.fj_ideal.proofs.Products.{refused_on, run_stop}
-use Rattle.fj_ideal.proofs.ReducedBasis.{Equal-product}
+use Rattle.fj_ideal.proofs.ReducedBasis.{SameIdeal-product}
 use Rattle.fj_ideal.proofs.ideal.Ideal.product.Goals as goal
 
 pub returns-in_err-list-clause-stop : goal.returns-in_err-list-clause-stop
@@ -28,7 +28,7 @@ returns-clause-ideal g c =
     let F = g.K.Coeff.field in
     let list_is : c.in_ok-list.list.items ≡ products F c.args.self.now.members c.args.o.now.members = c.in_ok-list.ensures.value ∙ ap₂ (products F) c.members.ensures.value c.members-2.ensures.value in
     IfOk-weaker c.of_owned.result _ _
-    (λ J S. subst (Equal F (products F c.args.self.now.given c.args.o.now.given)) (sym (S.given ∙ list_is)) (Equal-product g.met.K.Coeff.lawful c.members.ensures.ideal c.members-2.ensures.ideal))
+    (λ J S. subst (SameIdeal F (products F c.args.self.now.given c.args.o.now.given)) (sym (S.given ∙ list_is)) (SameIdeal-product g.met.K.Coeff.lawful c.members.ensures.ideal c.members-2.ensures.ideal))
     c.of_owned.ensures.value
 
 pub returns-clause-stop : goal.returns-clause-stop
