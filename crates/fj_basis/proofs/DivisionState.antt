@@ -10,9 +10,9 @@ use Rattle.std.specs.Cmp.Lexicographic.{slice_cmp}
 use Rattle.fj_coeff.specs.Field.{Field, IsField}
 use Rattle.fj_theory.specs.Exponents.{IsExponents, origin, total, plus, minus, divides}
 use Rattle.fj_theory.specs.MonomialOrder.{IsMonomialOrder, compare_by}
-use Rattle.fj_theory.specs.Polynomial.{Polynomial, IsPolynomial, coefficient, term, sum, negation, product, terms_falling, lead}
+use Rattle.fj_theory.specs.Polynomial.{difference, Polynomial, IsPolynomial, coefficient, term, sum, negation, product, terms_falling, lead}
 use Rattle.fj_theory.specs.Lead.{lead_exponents, lead_coefficient}
-use Rattle.fj_theory.specs.Division.{Division, difference, cancel_lead, move_lead}
+use Rattle.fj_groebner.specs.Division.{Division, cancel_lead, move_lead}
 use Rattle.fj_theory.proofs.Exponents.{IsExponents-minus, plus-minus, plus_comm}
 use Rattle.fj_theory.proofs.Field.{zero_below}
 use Rattle.fj_theory.proofs.Lead.{above_lead, IsExponents-lead, lead_coefficient-below, lead_coefficient-nonzero}

@@ -8,7 +8,7 @@ use Rattle.fj_theory.specs.Exponents.{total, minus}
 use Rattle.fj_theory.specs.MonomialOrder.{IsMonomialOrder}
 use Rattle.fj_theory.specs.Polynomial.{Polynomial, lead}
 use Rattle.fj_theory.specs.Lead.{lead_exponents}
-use Rattle.fj_theory.specs.Division.{Sugared, AreWithinSugars, DegreeAtMost, Division, polynomials_of, member_at, first_divisor, step_by, cancel_lead, move_lead, IsDivisionStep}
+use Rattle.fj_groebner.specs.Division.{Sugared, AreWithinSugars, DegreeAtMost, Division, polynomials_of, member_at, first_divisor, step_by, cancel_lead, move_lead, IsDivisionStep}
 use Rattle.fj_basis.proofs.DivisionState.{lead-parts, some-lead}
 
 -- The member at a place of a list that is seen by a function.

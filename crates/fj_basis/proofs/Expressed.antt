@@ -6,7 +6,7 @@ use Rattle.fj_coeff.specs.Field.{Field, IsField}
 use Rattle.fj_theory.specs.Polynomial.{IsPolynomial}
 use Rattle.fj_theory.specs.Plain.{PlainPolynomial, polynomial}
 use Rattle.fj_theory.specs.Ideal.{ArePolynomials}
-use Rattle.fj_theory.specs.Rows.{AreRows, IsRow}
+use Rattle.fj_groebner.specs.Rows.{AreRows, IsRow}
 use Rattle.fj_theory.specs.Certificate.{AllRanksBelow, AllRowsBelow, IsExpressed, IsExpressedBothWays, IsRowOf}
 use Rattle.fj_theory.proofs.Plain.{IsPolynomial-polynomial}
 use Rattle.fj_basis.proofs.PrimeField.{combination_is}

@@ -8,8 +8,8 @@ use Rattle.std.proofs.lemmas.List.Folds.{list_any_at, list_any_none}
 use Rattle.fj_theory.specs.Exponents.{divides}
 use Rattle.fj_theory.specs.MonomialOrder.{compare_by}
 use Rattle.fj_theory.specs.Lead.{lead_exponents}
-use Rattle.fj_theory.specs.Division.{Sugared, member_at}
-use Rattle.fj_theory.specs.Run.{lead_of, is_left_out, kept_members, place_by_lead, sort_by_lead}
+use Rattle.fj_groebner.specs.Division.{Sugared, member_at}
+use Rattle.fj_groebner.specs.Run.{lead_of, is_left_out, kept_members, place_by_lead, sort_by_lead}
 
 module _ (key : List ℕ → List ℕ) (G : List Sugared) (i : ℕ) where
   -- The lead of the member at j divides that at i, and j decides.

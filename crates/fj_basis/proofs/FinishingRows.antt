@@ -6,10 +6,10 @@ use Rattle.fj_theory.specs.MonomialOrder.{IsMonomialOrder}
 use Rattle.fj_theory.specs.Polynomial.{Polynomial, IsPolynomial}
 use Rattle.fj_theory.specs.Ideal.{ArePolynomials}
 use Rattle.fj_theory.specs.Lead.{lead_exponents}
-use Rattle.fj_theory.specs.Division.{Sugared, Division, AreWithinSugars, DegreeAtMost, IsLowDivision, degree_limit, polynomials_of}
-use Rattle.fj_theory.specs.Run.{given, lead_of}
-use Rattle.fj_theory.proofs.Division.{IsDivision-quotients, IsDivision-length}
-use Rattle.fj_theory.proofs.Sugar.{StepsTo-IsWithinSugar}
+use Rattle.fj_groebner.specs.Division.{Sugared, Division, AreWithinSugars, DegreeAtMost, IsLowDivision, degree_limit, polynomials_of}
+use Rattle.fj_groebner.specs.Run.{given, lead_of}
+use Rattle.fj_groebner.proofs.Division.{IsDivision-quotients, IsDivision-length}
+use Rattle.fj_groebner.proofs.Sugar.{StepsTo-IsWithinSugar}
 use Rattle.fj_basis.specs.declared.members.Member.{Member}
 use Rattle.fj_basis.specs.Members.{sugared_members}
 use Rattle.fj_basis.specs.Quotients.{AreQuotientsWithin}

@@ -4,7 +4,7 @@ use Rattle.std.specs.Option.{option_map}
 use Rattle.std.proofs.lemmas.List.{drop_more, drop_all}
 use Rattle.fj_theory.specs.Exponents.{divides}
 use Rattle.fj_theory.specs.Lead.{lead_exponents}
-use Rattle.fj_theory.specs.Division.{Sugared, first_divisor}
+use Rattle.fj_groebner.specs.Division.{Sugared, first_divisor}
 
 -- Behind k members, as a place in the whole list.
 abbrev pub behind : ℕ → Option ℕ → Option ℕ

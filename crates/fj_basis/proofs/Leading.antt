@@ -6,20 +6,20 @@ use Rattle.fj_algebra.proofs.Lists.{All-map_back}
 use Rattle.fj_coeff.specs.Field.{Field, IsField}
 use Rattle.fj_theory.specs.Exponents.{IsExponents, total, minus, divides, least_common_multiple}
 use Rattle.fj_theory.specs.MonomialOrder.{IsMonomialOrder}
-use Rattle.fj_theory.specs.Polynomial.{Polynomial, IsPolynomial, product, term}
+use Rattle.fj_theory.specs.Polynomial.{difference, Polynomial, IsPolynomial, product, term}
 use Rattle.fj_theory.specs.Ideal.{ArePolynomials}
 use Rattle.fj_theory.specs.Lead.{lead_exponents, lead_coefficient}
-use Rattle.fj_theory.specs.Rows.{add_multiple, add_multiples}
-use Rattle.fj_theory.specs.Division.{Sugared, polynomials_of, member_at, AreWithinSugars, DegreeAtMost, degree_limit, difference}
-use Rattle.fj_theory.specs.Run.{lead_of, pair_multiple, s_polynomial, IsRun}
-use Rattle.fj_theory.specs.Run as definition
+use Rattle.fj_groebner.specs.Rows.{add_multiple, add_multiples}
+use Rattle.fj_groebner.specs.Division.{Sugared, polynomials_of, member_at, AreWithinSugars, DegreeAtMost, degree_limit}
+use Rattle.fj_groebner.specs.Run.{lead_of, pair_multiple, s_polynomial, IsRun}
+use Rattle.fj_groebner.specs.Run as definition
 use Rattle.fj_theory.proofs.Exponents.{IsExponents-minus, plus-minus, total-plus_exponents}
 use Rattle.fj_theory.proofs.Field.{one_below}
 use Rattle.fj_theory.proofs.IdealBridge.{in_ring}
 use Rattle.fj_theory.proofs.Lead.{IsExponents-lead, coefficient-lead, lead_coefficient-nonzero, nonzero-lead_coefficient}
-use Rattle.fj_theory.proofs.Multiple.{divides-least_common_multiple_left, divides-least_common_multiple_right}
-use Rattle.fj_theory.proofs.Run.{IsRun-IsKept, IsRun-polynomials, IsRun-monic, s_polynomial-IsPolynomial}
-use Rattle.fj_theory.proofs.Sugar.{IsRun-AreWithinSugars, s_polynomial-DegreeAtMost}
+use Rattle.fj_groebner.proofs.Multiple.{divides-least_common_multiple_left, divides-least_common_multiple_right}
+use Rattle.fj_groebner.proofs.Run.{IsRun-IsKept, IsRun-polynomials, IsRun-monic, s_polynomial-IsPolynomial}
+use Rattle.fj_groebner.proofs.Sugar.{IsRun-AreWithinSugars, s_polynomial-DegreeAtMost}
 use Rattle.fj_mono.specs.Monomial.{Monomial}
 use Rattle.fj_poly.specs.Limit.{IsHigh, IsHighWhere}
 use Rattle.fj_poly.specs.declared.fault.PolyFault.{PolyFault}

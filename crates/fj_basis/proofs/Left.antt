@@ -10,14 +10,12 @@ use Rattle.fj_algebra.specs.Ring.{CommutativeRing, subtract}
 use Rattle.fj_algebra.proofs.Ring.{ring_laws as ring_rules}
 use Rattle.fj_theory.specs.Exponents.{IsExponents}
 use Rattle.fj_theory.specs.MonomialOrder.{IsMonomialOrder, compare_by}
-use Rattle.fj_theory.specs.Polynomial.{Polynomial, IsPolynomial, IsTerm, IsFalling, coefficient, term, sum, terms_falling, lead}
-use Rattle.fj_theory.specs.Division.{difference}
+use Rattle.fj_theory.specs.Polynomial.{difference, Polynomial, IsPolynomial, IsTerm, IsFalling, coefficient, term, sum, terms_falling, lead}
 use Rattle.fj_theory.proofs.Field.{zero_below}
 use Rattle.fj_theory.proofs.MonomialOrder.{compare_by_exact}
 use Rattle.fj_theory.proofs.Polynomial.{coefficient-sum, IsPolynomial-sum, IsPolynomial-term}
-use Rattle.fj_theory.proofs.PolynomialRing.{polynomial_ring, map_add, sum_assoc, sum_empty}
+use Rattle.fj_theory.proofs.PolynomialRing.{map_subtract, polynomial_ring, map_add, sum_assoc, sum_empty}
 use Rattle.fj_theory.proofs.IdealBridge.{over}
-use Rattle.fj_theory.proofs.Division.{map_subtract}
 use Rattle.fj_theory.proofs.Terms.{Falls, Falls-from_IsFalling, IsFalling-from_Falls, terms_falling-IsFalling, length-terms_falling, from_entries-terms_falling, IsTerm-terms_falling, falling_coefficients}
 use Rattle.fj_poly.specs.Terms.{AreTerms}
 use Rattle.fj_poly.proofs.Falling.{falling-places, falling-front, falling-back, terms-front, terms-back, terms-append, above_trans}

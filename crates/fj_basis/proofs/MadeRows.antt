@@ -7,17 +7,17 @@ use Rattle.fj_algebra.proofs.Pairs.{contains_head, contains_nil}
 use Rattle.fj_theory.specs.MonomialOrder.{IsMonomialOrder}
 use Rattle.fj_theory.specs.Polynomial.{Polynomial, IsPolynomial, sum}
 use Rattle.fj_theory.specs.Ideal.{ArePolynomials, Member, list_combination}
-use Rattle.fj_theory.specs.ReducedBasis.{IsReducedBasis}
-use Rattle.fj_theory.specs.Rows.{AreRows, IsRow}
-use Rattle.fj_theory.specs.Division.{Division, IsHighDivision, IsLowDivision, Sugared, polynomials_of}
-use Rattle.fj_theory.specs.Run.{IsFinished, IsReplacing, given}
-use Rattle.fj_theory.specs.Run as definition
-use Rattle.fj_theory.proofs.Division.{IsDivision-length, IsDivision-quotients, Member-IsDivision, division_identity}
-use Rattle.fj_theory.proofs.Finishing.{IsFinished-IsReducedBasis}
+use Rattle.fj_groebner.specs.ReducedBasis.{IsReducedBasis}
+use Rattle.fj_groebner.specs.Rows.{AreRows, IsRow}
+use Rattle.fj_groebner.specs.Division.{Division, IsHighDivision, IsLowDivision, Sugared, polynomials_of}
+use Rattle.fj_groebner.specs.Run.{IsFinished, IsReplacing, given}
+use Rattle.fj_groebner.specs.Run as definition
+use Rattle.fj_groebner.proofs.Division.{IsDivision-length, IsDivision-quotients, Member-IsDivision, division_identity}
+use Rattle.fj_groebner.proofs.Finishing.{IsFinished-IsReducedBasis}
 use Rattle.fj_theory.proofs.Ideal.{Member-elements}
 use Rattle.fj_theory.proofs.IdealBridge.{ArePolynomials-head, ArePolynomials-tail}
 use Rattle.fj_theory.proofs.PolynomialRing.{sum_empty}
-use Rattle.fj_theory.proofs.Rows.{IsPolynomial-list_combination}
+use Rattle.fj_groebner.proofs.Rows.{IsPolynomial-list_combination}
 use Rattle.fj_basis.specs.declared.members.Member as code
 use Rattle.fj_basis.specs.declared.run.Run as code_run
 use Rattle.fj_basis.specs.Basis.{IsMadeOf, IsResult, WithCofactors}

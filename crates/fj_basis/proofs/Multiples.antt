@@ -7,7 +7,7 @@ use Rattle.fj_theory.specs.Exponents.{IsExponents, total, plus, minus, divides}
 use Rattle.fj_theory.specs.MonomialOrder.{IsMonomialOrder, compare_by}
 use Rattle.fj_theory.specs.Polynomial.{Polynomial, IsPolynomial, coefficient, degree, term, negation, product}
 use Rattle.fj_theory.specs.Lead.{lead_exponents}
-use Rattle.fj_theory.specs.Division.{DegreeAtMost}
+use Rattle.fj_groebner.specs.Division.{DegreeAtMost}
 use Rattle.fj_theory.proofs.Exponents.{IsExponents-minus, plus-minus}
 use Rattle.fj_theory.proofs.Field.{element, field_ring, rank_element, rank_mul, rank_zero, zero_below}
 use Rattle.fj_theory.proofs.MonomialOrder.{compare_by-plus_left}

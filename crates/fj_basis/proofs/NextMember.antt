@@ -6,26 +6,26 @@ use Rattle.std.proofs.lemmas.List.Elements.{All-map, All-replicate, All-weaker}
 use Rattle.fj_coeff.specs.Field.{Field, IsField}
 use Rattle.fj_theory.specs.Exponents.{IsExponents, divides, minus, origin, total}
 use Rattle.fj_theory.specs.MonomialOrder.{IsMonomialOrder}
-use Rattle.fj_theory.specs.Polynomial.{Polynomial, IsPolynomial, coefficient, product, sum, term}
+use Rattle.fj_theory.specs.Polynomial.{difference, Polynomial, IsPolynomial, coefficient, product, sum, term}
 use Rattle.fj_theory.specs.Ideal.{ArePolynomials}
 use Rattle.fj_theory.specs.Lead.{lead_coefficient, lead_exponents, made_monic}
-use Rattle.fj_theory.specs.Rows.{IsRow, add_multiple}
+use Rattle.fj_groebner.specs.Rows.{IsRow, add_multiple}
 use Rattle.fj_theory.specs.Steps.{StepsTo}
-use Rattle.fj_theory.specs.Division.{DegreeAtMost, Division, IsDivisionStep, IsHighDivision, IsLowDivision, IsWithinSugar, Sugared, cancel_lead, degree_limit, difference, division_start, first_divisor, member_at, move_lead, step_by}
-use Rattle.fj_theory.specs.Run.{lead_of, monic_member, pair_multiple, s_polynomial}
+use Rattle.fj_groebner.specs.Division.{DegreeAtMost, Division, IsDivisionStep, IsHighDivision, IsLowDivision, IsWithinSugar, Sugared, cancel_lead, degree_limit, division_start, first_divisor, member_at, move_lead, step_by}
+use Rattle.fj_groebner.specs.Run.{lead_of, monic_member, pair_multiple, s_polynomial}
 use Rattle.fj_theory.proofs.Degree.{product_nonzero}
-use Rattle.fj_theory.proofs.Division.{IsDivision-quotients, IsDivision-remainder_polynomial}
+use Rattle.fj_groebner.proofs.Division.{IsDivision-quotients, IsDivision-remainder_polynomial}
 use Rattle.fj_theory.proofs.Exponents.{IsExponents-minus, IsExponents-origin, plus-minus, total_origin, total-plus_exponents}
 use Rattle.fj_theory.proofs.Field.{one_below, zero_below}
 use Rattle.fj_theory.proofs.IdealBridge.{ArePolynomials-head, ArePolynomials-tail}
 use Rattle.fj_theory.proofs.Lead.{lead_coefficient-below, lead_coefficient-nonzero}
-use Rattle.fj_theory.proofs.Multiple.{length-least_common_multiple}
+use Rattle.fj_groebner.proofs.Multiple.{length-least_common_multiple}
 use Rattle.fj_theory.proofs.Polynomial.{coefficient-empty, coefficient-term_same, IsPolynomial-empty, IsPolynomial-term}
 use Rattle.fj_theory.proofs.PolynomialRing.{sum_comm, sum_empty}
 use Rattle.fj_theory.proofs.Product.{IsPolynomial-product}
-use Rattle.fj_theory.proofs.Rows.{IsRow-add_multiple, IsRow-remainder, IsRow-zero}
+use Rattle.fj_groebner.proofs.Rows.{IsRow-add_multiple, IsRow-remainder, IsRow-zero}
 use Rattle.fj_theory.proofs.Steps.{StepsTo-keeps}
-use Rattle.fj_theory.proofs.Sugar.{DegreeAtMost-made_monic, StepsTo-IsWithinSugar}
+use Rattle.fj_groebner.proofs.Sugar.{DegreeAtMost-made_monic, StepsTo-IsWithinSugar}
 use Rattle.fj_basis.specs.declared.members.Member.{Member}
 use Rattle.fj_basis.specs.Members.{IsTraced, sugared, sugared_members}
 use Rattle.fj_basis.specs.State.{row_at, s_polynomial_row}

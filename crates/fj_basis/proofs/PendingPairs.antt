@@ -11,10 +11,10 @@ use Rattle.fj_algebra.proofs.Pairs.{All-from_elements, contains_cons, contains_f
 use Rattle.fj_mono.specs.Monomial.{Monomial}
 use Rattle.fj_theory.specs.Exponents.{least_common_multiple, total}
 use Rattle.fj_theory.specs.Lead.{lead_exponents}
-use Rattle.fj_theory.specs.Division.{Sugared, degree_limit, member_at}
-use Rattle.fj_theory.specs.Run as definition
-use Rattle.fj_theory.specs.Run.{IsNext, append_member, drop_pair, lead_of, pair_multiple, pair_place, pairs_with}
-use Rattle.fj_theory.proofs.Run.{in_range, of_range, same_pair}
+use Rattle.fj_groebner.specs.Division.{Sugared, degree_limit, member_at}
+use Rattle.fj_groebner.specs.Run as definition
+use Rattle.fj_groebner.specs.Run.{IsNext, append_member, drop_pair, lead_of, pair_multiple, pair_place, pairs_with}
+use Rattle.fj_groebner.proofs.Run.{in_range, of_range, same_pair}
 use Rattle.fj_basis.specs.declared.pairs.Pair.{Pair}
 use Rattle.fj_basis.specs.Place.{IsWithinLimit, place, place_by}
 use Rattle.fj_basis.specs.State.{ArePending, HasPairsWith, IsPairOf}

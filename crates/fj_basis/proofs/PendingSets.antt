@@ -10,7 +10,7 @@ use Rattle.std.proofs.lemmas.Map.Views.{All-insert_key}
 use Rattle.fj_algebra.proofs.Pairs.{contains_cons, contains_head, contains_tail, contains_nil, All-from_elements}
 use Rattle.std.proofs.lemmas.Bool.{cases_lt}
 use Rattle.fj_mono.specs.Monomial.{Monomial}
-use Rattle.fj_theory.specs.Division.{Sugared}
+use Rattle.fj_groebner.specs.Division.{Sugared}
 use Rattle.fj_basis.specs.declared.pairs.Pair.{Pair}
 use Rattle.fj_basis.specs.Place.{place, place_by}
 use Rattle.fj_basis.specs.State.{HasPairsUpTo, IsPairOf}

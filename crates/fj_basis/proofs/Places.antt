@@ -8,8 +8,8 @@ use Rattle.std.proofs.lemmas.List.{drop_more, drop_all}
 use Rattle.fj_mono.specs.Monomial.{Monomial}
 use Rattle.fj_theory.specs.Exponents.{total}
 use Rattle.fj_theory.specs.MonomialOrder.{IsMonomialOrder, compare_by}
-use Rattle.fj_theory.specs.Division.{degree_limit}
-use Rattle.fj_theory.specs.Run.{are_coprime}
+use Rattle.fj_groebner.specs.Division.{degree_limit}
+use Rattle.fj_groebner.specs.Run.{are_coprime}
 use Rattle.fj_basis.specs.Place.{place_by, IsWithinLimit}
 
 then_assoc : (a b c : Ordering) → ordering_then (ordering_then a b) c ≡ ordering_then a (ordering_then b c)

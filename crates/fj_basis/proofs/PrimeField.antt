@@ -12,7 +12,7 @@ use Rattle.fj_theory.proofs.Field.{characteristic_large, one_below, zero_below}
 use Rattle.fj_theory.proofs.Polynomial.{coefficient_below}
 use Rattle.fj_theory.proofs.Product.{IsPolynomial-product, total_over_below}
 use Rattle.fj_theory.proofs.IdealBridge.{ArePolynomials-head, ArePolynomials-tail}
-use Rattle.fj_theory.proofs.Rows.{IsPolynomial-list_combination}
+use Rattle.fj_groebner.proofs.Rows.{IsPolynomial-list_combination}
 
 module _ {F : Field} (L : IsField F) where
   zero_add : (a : ℕ) → a < F.size → F.add 0 a ≡ a

@@ -9,11 +9,11 @@ use Rattle.fj_theory.specs.Polynomial.{Polynomial, IsPolynomial, coefficient, le
 use Rattle.fj_theory.specs.Ideal.{ArePolynomials}
 use Rattle.fj_theory.specs.Lead.{lead_exponents}
 use Rattle.fj_theory.specs.Steps.{StepsTo}
-use Rattle.fj_theory.specs.Division.{Sugared, Division, polynomials_of, AreWithinSugars, DegreeAtMost, IsDivisionStep, IsLowDivision, IsHighDivision, division_start, degree_limit, first_divisor, step_by}
-use Rattle.fj_theory.proofs.Division.{IsDivisionStep-falls}
+use Rattle.fj_groebner.specs.Division.{Sugared, Division, polynomials_of, AreWithinSugars, DegreeAtMost, IsDivisionStep, IsLowDivision, IsHighDivision, division_start, degree_limit, first_divisor, step_by}
+use Rattle.fj_groebner.proofs.Division.{IsDivisionStep-falls}
 use Rattle.fj_theory.proofs.Lead.{IsExponents-lead, coefficient-lead, lead_coefficient-nonzero}
 use Rattle.fj_theory.proofs.Polynomial.{coefficient-empty, IsPolynomial-empty}
-use Rattle.fj_theory.proofs.Sugar.{StepsTo-IsWithinSugar}
+use Rattle.fj_groebner.proofs.Sugar.{StepsTo-IsWithinSugar}
 use Rattle.fj_basis.specs.Quotients.{IsUnderWay}
 use Rattle.fj_basis.proofs.DivisionState.{lead-none, lead-parts, some-lead}
 use Rattle.fj_basis.proofs.Height.{height, height-less}

@@ -7,15 +7,15 @@ use Rattle.fj_coeff.specs.Field.{Field, IsField}
 use Rattle.fj_theory.specs.MonomialOrder.{IsMonomialOrder}
 use Rattle.fj_theory.specs.Polynomial.{Polynomial, IsPolynomial}
 use Rattle.fj_theory.specs.Ideal.{ArePolynomials}
-use Rattle.fj_theory.specs.Rows.{IsRow}
-use Rattle.fj_theory.specs.Division.{AreWithinSugars, DegreeAtMost, IsHighDivision, Sugared, degree_limit, polynomials_of}
-use Rattle.fj_theory.specs.Run.{IsReplacement, IsReplacing, Replacing, kept_members, sort_by_lead}
-use Rattle.fj_theory.proofs.Division.{IsDivision-quotients}
+use Rattle.fj_groebner.specs.Rows.{IsRow}
+use Rattle.fj_groebner.specs.Division.{AreWithinSugars, DegreeAtMost, IsHighDivision, Sugared, degree_limit, polynomials_of}
+use Rattle.fj_groebner.specs.Run.{IsReplacement, IsReplacing, Replacing, kept_members, sort_by_lead}
+use Rattle.fj_groebner.proofs.Division.{IsDivision-quotients}
 use Rattle.fj_theory.proofs.IdealBridge.{ArePolynomials-head}
 use Rattle.fj_theory.proofs.Lead.{nonzero-lead_coefficient}
-use Rattle.fj_theory.proofs.Replacing.{IsReplacing-AreWithinSugars, IsReplacing-monic, IsReplacing-polynomials, IsReplacing-rest_polynomials}
-use Rattle.fj_theory.proofs.Rows.{IsRow-remainder}
-use Rattle.fj_theory.proofs.Sugar.{StepsTo-IsWithinSugar}
+use Rattle.fj_groebner.proofs.Replacing.{IsReplacing-AreWithinSugars, IsReplacing-monic, IsReplacing-polynomials, IsReplacing-rest_polynomials}
+use Rattle.fj_groebner.proofs.Rows.{IsRow-remainder}
+use Rattle.fj_groebner.proofs.Sugar.{StepsTo-IsWithinSugar}
 use Rattle.fj_basis.specs.declared.members.Member.{Member}
 use Rattle.fj_basis.specs.Finished.{AreMembersOfRun, IsHighReplacing, IsReplacementOf}
 use Rattle.fj_basis.specs.Members.{IsRowWithin, IsTraced, sugared, sugared_members}

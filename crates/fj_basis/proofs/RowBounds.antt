@@ -3,11 +3,12 @@ use Rattle.std.proofs.Common.{◌≡◌, ◌⊎◌, Bool, true, false, cond, ℕ
 use Rattle.std.specs.FinMap.{empty}
 use Rattle.std.proofs.lemmas.List.Elements.{All-cons, All-head, All-tail}
 use Rattle.fj_coeff.specs.Field.{Field, IsField}
+use Rattle.fj_theory.proofs.OrderedPolynomials.{exponents_of}
 use Rattle.fj_theory.specs.Exponents.{total}
 use Rattle.fj_theory.specs.Polynomial.{Polynomial, IsPolynomial, coefficient, degree, negation, product, sum, term}
 use Rattle.fj_theory.specs.Ideal.{ArePolynomials}
-use Rattle.fj_theory.specs.Rows.{add_multiple, add_multiples, AreRows}
-use Rattle.fj_theory.specs.Division.{DegreeAtMost, member_at, polynomials_of}
+use Rattle.fj_groebner.specs.Rows.{add_multiple, add_multiples, AreRows}
+use Rattle.fj_groebner.specs.Division.{DegreeAtMost, member_at, polynomials_of}
 use Rattle.fj_theory.proofs.Degree.{degree-product, degree_attained, degree_bounds, empty_from_degree}
 use Rattle.fj_theory.proofs.Field.{zero_below}
 use Rattle.fj_theory.proofs.IdealBridge.{over, ArePolynomials-head, ArePolynomials-tail}
@@ -15,7 +16,6 @@ use Rattle.fj_theory.proofs.FormalSum.{same, same_true}
 use Rattle.fj_theory.proofs.Polynomial.{coefficient-empty, coefficient-sum, coefficient-term}
 use Rattle.fj_theory.proofs.PolynomialRing.{IsPolynomial-negation}
 use Rattle.fj_theory.proofs.Product.{IsPolynomial-product}
-use Rattle.fj_theory.proofs.ReducedBasis.{exponents_of}
 use Rattle.fj_basis.specs.declared.members.Member.{Member}
 use Rattle.fj_basis.specs.Members.{sugared_members, IsTraced}
 use Rattle.fj_basis.proofs.Rows.{times_empty, empty_times, negation-positive}

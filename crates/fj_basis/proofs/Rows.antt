@@ -8,8 +8,8 @@ use Rattle.fj_coeff.specs.Field.{Field, IsField}
 use Rattle.fj_theory.specs.Exponents.{origin, plus, total}
 use Rattle.fj_theory.specs.Polynomial.{Polynomial, IsPolynomial, coefficient, degree, sum, product, negation, term, with_coefficients, support}
 use Rattle.fj_theory.specs.Ideal.{ArePolynomials}
-use Rattle.fj_theory.specs.Rows.{add_multiple, add_multiples}
-use Rattle.fj_theory.specs.Division.{DegreeAtMost}
+use Rattle.fj_groebner.specs.Rows.{add_multiple, add_multiples}
+use Rattle.fj_groebner.specs.Division.{DegreeAtMost}
 use Rattle.fj_theory.proofs.Exponents.{IsExponents-origin}
 use Rattle.fj_theory.proofs.Field.{one_below}
 use Rattle.fj_theory.proofs.Polynomial.{IsPolynomial-sum}

@@ -17,17 +17,17 @@ use Rattle.fj_theory.specs.MonomialOrder.{IsMonomialOrder}
 use Rattle.fj_theory.specs.Polynomial.{Polynomial, term}
 use Rattle.fj_theory.specs.Ideal.{ArePolynomials}
 use Rattle.fj_theory.specs.Lead.{lead_coefficient, made_monic}
-use Rattle.fj_theory.specs.Rows.{IsRow}
-use Rattle.fj_theory.specs.Division.{DegreeAtMost, Sugared, degree_limit}
-use Rattle.fj_theory.specs.Run as definition
-use Rattle.fj_theory.specs.Run.{append_member, first_members, given, monic_member, pairs_with, run_start}
+use Rattle.fj_groebner.specs.Rows.{IsRow}
+use Rattle.fj_groebner.specs.Division.{DegreeAtMost, Sugared, degree_limit}
+use Rattle.fj_groebner.specs.Run as definition
+use Rattle.fj_groebner.specs.Run.{append_member, first_members, given, monic_member, pairs_with, run_start}
 use Rattle.fj_theory.proofs.Exponents.{IsExponents-origin, total_origin}
 use Rattle.fj_theory.proofs.Field.{zero_below}
 use Rattle.fj_theory.proofs.Lead.{lead_coefficient-below, lead_coefficient-nonzero}
 use Rattle.fj_theory.proofs.Polynomial.{IsPolynomial-term}
-use Rattle.fj_theory.proofs.Rows.{IsRow-one}
-use Rattle.fj_theory.proofs.Run.{of_all_pairs}
-use Rattle.fj_theory.proofs.Sugar.{DegreeAtMost-made_monic, given-DegreeAtMost}
+use Rattle.fj_groebner.proofs.Rows.{IsRow-one}
+use Rattle.fj_groebner.proofs.Run.{of_all_pairs}
+use Rattle.fj_groebner.proofs.Sugar.{DegreeAtMost-made_monic, given-DegreeAtMost}
 use Rattle.fj_basis.specs.declared.members.Member.{Member}
 use Rattle.fj_basis.specs.declared.run.Run.{Run}
 use Rattle.fj_basis.specs.Members.{IsTraced, sugared, sugared_members}

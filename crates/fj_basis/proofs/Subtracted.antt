@@ -5,7 +5,7 @@ use Rattle.std.proofs.lemmas.List.{get_or_default, get_or-map}
 use Rattle.fj_coeff.specs.Field.{Field, IsField}
 use Rattle.fj_theory.specs.Exponents.{total}
 use Rattle.fj_theory.specs.Polynomial.{Polynomial, coefficient, negation}
-use Rattle.fj_theory.specs.Division.{Sugared, degree_limit, member_at}
+use Rattle.fj_groebner.specs.Division.{Sugared, degree_limit, member_at}
 use Rattle.fj_basis.specs.declared.members.Member.{Member}
 use Rattle.fj_basis.specs.Members.{sugared, sugared_members}
 use Rattle.fj_basis.specs.Quotients.{AreQuotientsWithin}

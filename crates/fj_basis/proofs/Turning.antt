@@ -11,12 +11,12 @@ use Rattle.fj_coeff.specs.Field.{Field, IsField}
 use Rattle.fj_theory.specs.MonomialOrder.{IsMonomialOrder}
 use Rattle.fj_theory.specs.Polynomial.{Polynomial}
 use Rattle.fj_theory.specs.Ideal.{ArePolynomials}
-use Rattle.fj_theory.specs.Division.{Division, IsHighDivision, IsLowDivision}
-use Rattle.fj_theory.specs.Run as definition
-use Rattle.fj_theory.specs.Run.{IsHighTurn, IsNext, IsRun, IsTurn, append_member, drop_pair, dropped, has_coprime_leads, monic_member, run_start, s_polynomial, treat_pair, treated}
-use Rattle.fj_theory.proofs.Division.{IsDivision-remainder_polynomial, same_length}
+use Rattle.fj_groebner.specs.Division.{Division, IsHighDivision, IsLowDivision}
+use Rattle.fj_groebner.specs.Run as definition
+use Rattle.fj_groebner.specs.Run.{IsHighTurn, IsNext, IsRun, IsTurn, append_member, drop_pair, dropped, has_coprime_leads, monic_member, run_start, s_polynomial, treat_pair, treated}
+use Rattle.fj_groebner.proofs.Division.{IsDivision-remainder_polynomial, same_length}
 use Rattle.fj_theory.proofs.IdealBridge.{in_ring}
-use Rattle.fj_theory.proofs.Run.{IsRun-IsKept, nonzero}
+use Rattle.fj_groebner.proofs.Run.{IsRun-IsKept, nonzero}
 use Rattle.fj_basis.specs.declared.members.Member.{Member}
 use Rattle.fj_basis.specs.declared.pairs.Pair.{Pair}
 use Rattle.fj_basis.specs.declared.run.Run.{Run}

@@ -11,14 +11,14 @@ use Rattle.fj_theory.specs.Polynomial.{Polynomial, IsPolynomial, coefficient, te
 use Rattle.fj_theory.specs.Ideal.{ArePolynomials}
 use Rattle.fj_theory.specs.Lead.{lead_exponents, lead_coefficient}
 use Rattle.fj_theory.specs.Steps.{StepsTo}
-use Rattle.fj_theory.specs.Division.{Sugared, Division, polynomials_of, member_at, first_divisor, step_by, cancel_lead, move_lead, IsDivisionStep}
+use Rattle.fj_groebner.specs.Division.{Sugared, Division, polynomials_of, member_at, first_divisor, step_by, cancel_lead, move_lead, IsDivisionStep}
 use Rattle.fj_theory.proofs.Exponents.{IsExponents-minus, plus-minus, plus_comm}
 use Rattle.fj_theory.proofs.Field.{zero_below}
 use Rattle.fj_theory.proofs.Lead.{IsExponents-lead, lead_coefficient-below, lead_coefficient-nonzero}
 use Rattle.fj_theory.proofs.MonomialOrder.{compare_by-plus}
 use Rattle.fj_theory.proofs.Polynomial.{IsPolynomial-sum, IsPolynomial-term}
 use Rattle.fj_theory.proofs.Terms.{terms_falling-exponents, terms_falling-IsFalling, falling_coefficients, from_entries-terms_falling, IsTerm-terms_falling}
-use Rattle.fj_theory.proofs.Division.{first_divisor-Some, IsDivisionStep-polynomial, IsDivisionStep-falls}
+use Rattle.fj_groebner.proofs.Division.{first_divisor-Some, IsDivisionStep-polynomial, IsDivisionStep-falls}
 use Rattle.fj_poly.proofs.Falling.{above_from_below, above_trans}
 use Rattle.fj_basis.specs.Quotients.{IsUnderWay}
 use Rattle.fj_basis.proofs.RowBounds.{sum-positive, term-positive}

@@ -6,9 +6,9 @@ use base.Stored.{coded_via}
 use Rattle.fj_coeff.specs.Field.{Field}
 use Rattle.fj_theory.specs.Polynomial.{Polynomial}
 use Rattle.fj_theory.specs.Plain.{PlainPolynomial, polynomial}
-use Rattle.fj_theory.specs.Rows.{AreRows}
-use Rattle.fj_theory.specs.Division.{Sugared, polynomials_of}
-use Rattle.fj_theory.specs.Run.{IsFinished}
+use Rattle.fj_groebner.specs.Rows.{AreRows}
+use Rattle.fj_groebner.specs.Division.{Sugared, polynomials_of}
+use Rattle.fj_groebner.specs.Run.{IsFinished}
 use Rattle.fj_plain.specs.declared.order_name.OrderName.{OrderName}
 use Rattle.fj_plain.specs.declared.cert.Cert.{Cert}
 use Rattle.fj_plain.specs.declared.cert.Cert.TheVariants.{Basis}

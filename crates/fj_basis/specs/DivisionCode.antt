@@ -4,7 +4,7 @@ use Rattle.std.specs.Coded.{Coded, coded_list, coded×, coded_ℕ}
 use Rattle.std.specs.FinMap.{code}
 use base.Stored.{coded_via}
 use Rattle.fj_theory.specs.Polynomial.{Polynomial}
-use Rattle.fj_theory.specs.Division.{Division}
+use Rattle.fj_groebner.specs.Division.{Division}
 
 abbrev polynomial_code : Coded Polynomial
 polynomial_code = code (coded_list coded_ℕ) coded_ℕ

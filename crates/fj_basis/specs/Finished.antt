@@ -3,9 +3,9 @@ use Rattle.std.specs.Prelude.{◌≡◌, ℕ, List, [], ◌∷◌, map, All}
 use Rattle.fj_coeff.specs.Field.{Field}
 use Rattle.fj_theory.specs.Polynomial.{Polynomial, negation}
 use Rattle.fj_theory.specs.Ideal.{ArePolynomials}
-use Rattle.fj_theory.specs.Rows.{add_multiples}
-use Rattle.fj_theory.specs.Division.{Sugared, Division, IsLowDivision, IsHighDivision}
-use Rattle.fj_theory.specs.Run as definition
+use Rattle.fj_groebner.specs.Rows.{add_multiples}
+use Rattle.fj_groebner.specs.Division.{Sugared, Division, IsLowDivision, IsHighDivision}
+use Rattle.fj_groebner.specs.Run as definition
 use Rattle.fj_basis.specs.declared.members.Member.{Member}
 use Rattle.fj_basis.specs.Members.{sugared, sugared_members, IsTraced}
 

@@ -3,8 +3,8 @@ use Rattle.std.specs.Prelude.{◌≡◌, ℕ, ◌≤◌, List, length, map, All}
 use Rattle.fj_coeff.specs.Field.{Field}
 use Rattle.fj_theory.specs.Polynomial.{Polynomial}
 use Rattle.fj_theory.specs.Ideal.{ArePolynomials}
-use Rattle.fj_theory.specs.Rows.{IsRow}
-use Rattle.fj_theory.specs.Division.{Sugared, DegreeAtMost, degree_limit}
+use Rattle.fj_groebner.specs.Rows.{IsRow}
+use Rattle.fj_groebner.specs.Division.{Sugared, DegreeAtMost, degree_limit}
 use Rattle.fj_basis.specs.declared.members.Member.{Member}
 
 -- The member without its cofactors.

@@ -2,7 +2,7 @@
 use Rattle.std.specs.Prelude.{◌≡◌, ℕ, ◌<◌, List, [], ◌∷◌, ◌++◌, Option, Some, None, MatchOption}
 use Rattle.fj_mono.specs.Monomial.{Monomial}
 use Rattle.fj_theory.specs.Exponents.{total}
-use Rattle.fj_theory.specs.Division.{degree_limit}
+use Rattle.fj_groebner.specs.Division.{degree_limit}
 use Rattle.fj_basis.specs.declared.pairs.Pair.{Pair}
 
 -- Where a pair stands among all: the least common multiple decides, where it is not above the limit, then j, then i.

@@ -8,7 +8,7 @@ use Rattle.fj_theory.specs.MonomialOrder.{compare_by}
 use Rattle.fj_theory.specs.Polynomial.{Polynomial, IsPolynomial, coefficient}
 use Rattle.fj_theory.specs.Ideal.{ArePolynomials}
 use Rattle.fj_theory.specs.Lead.{lead_exponents}
-use Rattle.fj_theory.specs.Division.{Sugared, Division, member_at, IsLowDivision}
+use Rattle.fj_groebner.specs.Division.{Sugared, Division, member_at, IsLowDivision}
 
 -- The division of h by the list ends with these quotients and this remainder, and no sugar is above the limit.
 pub record IsDivided (F : Field) (key : List ℕ → List ℕ) (G : List Sugared) (h : Sugared) (quotients : List Polynomial) (remainder : Polynomial) : Type 0 where

@@ -5,10 +5,10 @@ use Rattle.fj_coeff.specs.Field.{Field}
 use Rattle.fj_theory.specs.Exponents.{origin, minus}
 use Rattle.fj_theory.specs.Polynomial.{Polynomial, negation, product, term}
 use Rattle.fj_theory.specs.Lead.{lead_coefficient}
-use Rattle.fj_theory.specs.Rows.{add_multiple, add_multiples}
+use Rattle.fj_groebner.specs.Rows.{add_multiple, add_multiples}
 use Rattle.fj_theory.specs.Ideal.{ArePolynomials}
-use Rattle.fj_theory.specs.Division.{Sugared, Division, IsLowDivision, degree_limit}
-use Rattle.fj_theory.specs.Run as definition
+use Rattle.fj_groebner.specs.Division.{Sugared, Division, IsLowDivision, degree_limit}
+use Rattle.fj_groebner.specs.Run as definition
 use Rattle.fj_basis.specs.declared.pairs.Pair.{Pair}
 use Rattle.fj_basis.specs.declared.members.Member.{Member}
 use Rattle.fj_basis.specs.declared.run.Run.{Run}

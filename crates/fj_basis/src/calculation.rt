@@ -1,6 +1,6 @@
 ghost use Rattle.std.specs.Prelude.{◌≡◌, ◌≤◌, IfOk, length};
-ghost use Rattle.fj_theory.specs.ReducedBasis.{IsReducedBasis};
-ghost use Rattle.fj_theory.specs.Run.{TooHigh, Unfinished};
+ghost use Rattle.fj_groebner.specs.ReducedBasis.{IsReducedBasis};
+ghost use Rattle.fj_groebner.specs.Run.{TooHigh, Unfinished};
 ghost use Rattle.fj_plain.specs.OrderRow.{order_in_row};
 ghost use Rattle.fj_basis.specs.Basis.{IsMadeOf, IsResult};
 ghost use Rattle.fj_basis.specs.Outcome.{IsFaultOnlyWhere, IsStopWhere};

@@ -6,10 +6,10 @@ ghost use Rattle.fj_theory.specs.Exponents.{divides, minus, total};
 ghost use Rattle.fj_theory.specs.MonomialOrder.{compare_by};
 ghost use Rattle.fj_theory.specs.Ideal.{ArePolynomials, list_combination};
 ghost use Rattle.fj_theory.specs.Polynomial.{IsPolynomial, lead, sum, terms_falling};
-ghost use Rattle.fj_theory.specs.DegreeOrder.{IsDegreeOrder};
+ghost use Rattle.fj_groebner.specs.DegreeOrder.{IsDegreeOrder};
 ghost use Rattle.fj_theory.specs.Lead.{lead_exponents};
-ghost use Rattle.fj_theory.specs.Division.{AreWithinSugars, DegreeAtMost, IsDivisionStep, IsHighDivision, IsLowDivision, cancel_lead, degree_limit, first_divisor, move_lead, polynomials_of, step_by};
-ghost use Rattle.fj_theory.specs.Run.{given};
+ghost use Rattle.fj_groebner.specs.Division.{AreWithinSugars, DegreeAtMost, IsDivisionStep, IsHighDivision, IsLowDivision, cancel_lead, degree_limit, first_divisor, move_lead, polynomials_of, step_by};
+ghost use Rattle.fj_groebner.specs.Run.{given};
 ghost use Rattle.fj_poly.specs.Limit.{IsHighWhere};
 ghost use Rattle.fj_basis.specs.Quotients.{IsDivided, IsUnderWay};
 
@@ -35,7 +35,7 @@ pub(crate) struct Division<K: Coeff, O: Order> {
 impl<K: Coeff, O: Order> Model for Division<K, O> {
     ghost use Rattle.std.specs.Prelude.{◌≤◌};
     ghost use Rattle.std.specs.FinMap.{len};
-    ghost use Rattle.fj_theory.specs.Division as definition;
+    ghost use Rattle.fj_groebner.specs.Division as definition;
     ghost use Rattle.fj_theory.specs.Polynomial.{IsPolynomial};
     ghost use Rattle.fj_basis.specs.DivisionCode.{division_code};
     ghost use Rattle.fj_basis.specs.Left.{front, back};

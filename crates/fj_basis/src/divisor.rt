@@ -1,5 +1,5 @@
 ghost use Rattle.std.specs.Prelude.{◌≡◌};
-ghost use Rattle.fj_theory.specs.Division.{Sugared};
+ghost use Rattle.fj_groebner.specs.Division.{Sugared};
 ghost use Rattle.fj_theory.specs.Polynomial.{IsPolynomial};
 
 use fj_coeff::Coeff;

@@ -1,8 +1,8 @@
 ghost use Rattle.std.specs.Prelude.{◌≡◌, ◌≤◌};
-ghost use Rattle.fj_theory.specs.Division.{degree_limit};
+ghost use Rattle.fj_groebner.specs.Division.{degree_limit};
 ghost use Rattle.fj_theory.specs.Ideal.{ArePolynomials};
 ghost use Rattle.fj_theory.specs.Polynomial.{IsPolynomial};
-ghost use Rattle.fj_theory.specs.Run.{given};
+ghost use Rattle.fj_groebner.specs.Run.{given};
 
 use crate::divisor::Divisor;
 use fj_coeff::Coeff;

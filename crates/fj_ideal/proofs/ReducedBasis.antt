@@ -8,10 +8,10 @@ use Rattle.fj_theory.specs.MonomialOrder.{IsMonomialOrder, grevlex_key}
 use Rattle.fj_theory.specs.Polynomial.{Polynomial, IsPolynomial, coefficient, degree, term, sum}
 use Rattle.fj_theory.specs.Ideal.{ArePolynomials, Member, Inside, SameIdeal, list_combination, products}
 use Rattle.fj_theory.specs.Lead.{lead_coefficient, lead_exponents}
-use Rattle.fj_theory.specs.ReducedBasis.{IsReducedBasis}
-use Rattle.fj_theory.specs.Rows.{AreRows, IsRow}
-use Rattle.fj_theory.specs.Division.{polynomials_of}
-use Rattle.fj_theory.specs.Run.{given}
+use Rattle.fj_groebner.specs.ReducedBasis.{IsReducedBasis}
+use Rattle.fj_groebner.specs.Rows.{AreRows, IsRow}
+use Rattle.fj_groebner.specs.Division.{polynomials_of}
+use Rattle.fj_groebner.specs.Run.{given}
 use Rattle.fj_theory.specs.Evaluation.{IsPoint, IsZeroOf}
 use Rattle.fj_theory.proofs.Field.{one_below}
 use Rattle.fj_theory.proofs.Keys.{grevlex_key-IsMonomialOrder}
@@ -23,10 +23,10 @@ use Rattle.fj_theory.proofs.Lead.{IsExponents-lead, coefficient-lead, nonzero-le
 use Rattle.fj_theory.proofs.PolynomialRing.{sum_empty}
 use Rattle.fj_theory.proofs.IdealBridge.{IsPolynomial-one}
 use Rattle.fj_theory.proofs.Ideal.{SameIdeal-refl, SameIdeal-sym, SameIdeal-append, SameIdeal-products, Inside-trans}
-use Rattle.fj_theory.proofs.ReducedBasis.{IsReducedBasis_polynomials, IsReducedBasis-SameIdeal, IsReducedBasis-one, IsReducedBasis-zero, IsReducedBasis-unique, IsReducedBasis-same_ideal, SameIdeal-IsReducedBasis}
-use Rattle.fj_theory.proofs.Division.{Member-IsDivision, IsDivision-quotients}
-use Rattle.fj_theory.proofs.DegreeOrder.{polynomials_of-given}
-use Rattle.fj_theory.proofs.Rows.{IsPolynomial-list_combination}
+use Rattle.fj_groebner.proofs.ReducedBasis.{IsReducedBasis_polynomials, IsReducedBasis-SameIdeal, IsReducedBasis-one, IsReducedBasis-zero, IsReducedBasis-unique, IsReducedBasis-same_ideal, SameIdeal-IsReducedBasis}
+use Rattle.fj_groebner.proofs.Division.{Member-IsDivision, IsDivision-quotients}
+use Rattle.fj_groebner.proofs.DegreeOrder.{polynomials_of-given}
+use Rattle.fj_groebner.proofs.Rows.{IsPolynomial-list_combination}
 use Rattle.fj_theory.proofs.Evaluation.{Inside-IsZeroOf}
 use Rattle.fj_basis.specs.Quotients.{IsDivided}
 use Rattle.fj_ideal.specs.Ideal.{WithBasis, IsIdeal}

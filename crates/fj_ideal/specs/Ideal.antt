@@ -7,7 +7,7 @@ use Rattle.fj_coeff.specs.Field.{Field}
 use Rattle.fj_theory.specs.MonomialOrder.{grevlex_key}
 use Rattle.fj_theory.specs.Polynomial.{Polynomial}
 use Rattle.fj_theory.specs.Ideal.{ArePolynomials}
-use Rattle.fj_theory.specs.ReducedBasis.{IsReducedBasis}
+use Rattle.fj_groebner.specs.ReducedBasis.{IsReducedBasis}
 use Rattle.fj_basis.specs.Basis.{WithCofactors, IsMadeOf, basis_code}
 
 -- The list that the ideal was made of, the members of its basis, the cofactors of the given polynomials in each member,

@@ -5,7 +5,7 @@ use Rattle.fj_coeff.specs.Field.{Field}
 use Rattle.fj_theory.specs.MonomialOrder.{grevlex_key}
 use Rattle.fj_theory.specs.Polynomial.{Polynomial, product}
 use Rattle.fj_theory.specs.Ideal.{products}
-use Rattle.fj_theory.specs.Run.{Unfinished, TooHigh}
+use Rattle.fj_groebner.specs.Run.{Unfinished, TooHigh}
 use Rattle.fj_poly.specs.Limit.{IsHigh}
 use Rattle.fj_plain.specs.declared.order_name.OrderName.TheVariants.{Grevlex}
 use Rattle.fj_plain.specs.declared.lists.Kept.{Kept}

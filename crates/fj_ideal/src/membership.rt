@@ -1,6 +1,6 @@
 ghost use Rattle.std.specs.Prelude.{◌↔◌, IfOk, IsTrue, MatchOption};
 ghost use Rattle.fj_theory.specs.Ideal.{Inside, Member};
-ghost use Rattle.fj_theory.specs.Rows.{IsRow};
+ghost use Rattle.fj_groebner.specs.Rows.{IsRow};
 
 use crate::ideal::Ideal;
 use fj_basis::divide;

@@ -13,10 +13,10 @@ use Rattle.fj_theory.specs.Root.{IsRoot}
 use Rattle.fj_theory.proofs.FrobeniusPower.{ArePolynomials-frobenius_power}
 use Rattle.fj_theory.proofs.Ideal.{ArePolynomials-append, ArePolynomials-products, SameIdeal-refl}
 use Rattle.fj_theory.proofs.IdealBridge.{ArePolynomials-head, ArePolynomials-single, ArePolynomials-tail}
-use Rattle.fj_theory.proofs.Lacking.{IsReducedBasis-UsesFirst}
+use Rattle.fj_groebner.proofs.Lacking.{IsReducedBasis-UsesFirst}
 use Rattle.fj_theory.proofs.PartsExistence.{parts_of, IsParts-parts_of}
 use Rattle.fj_theory.proofs.Plain.{IsPolynomial-polynomial}
-use Rattle.fj_theory.proofs.ReducedBasis.{IsReducedBasis-same_ideal}
+use Rattle.fj_groebner.proofs.ReducedBasis.{IsReducedBasis-same_ideal}
 use Rattle.fj_theory.proofs.Root.{IsRoot-append, IsRoot-nil, IsRoot-unique}
 use Rattle.fj_theory.proofs.RootParts.{IsRoot-parts}
 use Rattle.fj_theory.proofs.UsesFirst.{UsesFirst-append, UsesFirst-frobenius_power, UsesFirst-parts, UsesFirst-products}

@@ -5,12 +5,12 @@ use Rattle.fj_theory.specs.FrobeniusPower.{frobenius_power}
 use Rattle.fj_theory.specs.Ideal.{ArePolynomials, SameIdeal}
 use Rattle.fj_theory.specs.MonomialOrder.{grevlex_key}
 use Rattle.fj_theory.specs.Polynomial.{Polynomial}
-use Rattle.fj_theory.specs.ReducedBasis.{IsReducedBasis}
+use Rattle.fj_groebner.specs.ReducedBasis.{IsReducedBasis}
 use Rattle.fj_theory.specs.Root.{IsRoot}
 use Rattle.fj_theory.proofs.FrobeniusPower.{SameIdeal-frobenius_power}
 use Rattle.fj_theory.proofs.Ideal.{SameIdeal-refl, SameIdeal-sym}
 use Rattle.fj_theory.proofs.Keys.{grevlex_key-IsMonomialOrder}
-use Rattle.fj_theory.proofs.ReducedBasis.{IsReducedBasis_polynomials, IsReducedBasis-SameIdeal}
+use Rattle.fj_groebner.proofs.ReducedBasis.{IsReducedBasis_polynomials, IsReducedBasis-SameIdeal}
 use Rattle.fj_theory.proofs.Root.{IsRoot-SameIdeal}
 use Rattle.fj_ideal.specs.Ideal.{IsIdealOf, WithBasis}
 use Rattle.fj_script.specs.declared.question.Question.TheVariants as questions

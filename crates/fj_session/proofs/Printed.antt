@@ -6,11 +6,11 @@ use Rattle.fj_coeff.specs.Field.{Field, IsField}
 use Rattle.fj_theory.specs.Ideal.{ArePolynomials, SameIdeal, Member}
 use Rattle.fj_theory.specs.MonomialOrder.{IsMonomialOrder, grevlex_key}
 use Rattle.fj_theory.specs.Polynomial.{Polynomial, IsPolynomial}
-use Rattle.fj_theory.specs.ReducedBasis.{IsReducedBasis}
+use Rattle.fj_groebner.specs.ReducedBasis.{IsReducedBasis}
 use Rattle.fj_theory.proofs.Ideal.{SameIdeal-refl, SameIdeal-sym}
 use Rattle.fj_theory.proofs.IdealBridge.{Member_polynomial}
 use Rattle.fj_theory.proofs.Keys.{elim_key-IsMonomialOrder, grevlex_key-IsMonomialOrder, grlex_key-IsMonomialOrder, lex_key-IsMonomialOrder}
-use Rattle.fj_theory.proofs.ReducedBasis.{IsReducedBasis-same_ideal}
+use Rattle.fj_groebner.proofs.ReducedBasis.{IsReducedBasis-same_ideal}
 use Rattle.fj_text.proofs.Values.{if_ok}
 use Rattle.fj_plain.specs.declared.order_name.OrderName.{OrderName}
 use Rattle.fj_plain.specs.declared.order_name.OrderName.TheVariants.{Lex, Grlex, Grevlex, Elim}

@@ -3,7 +3,7 @@ use Rattle.std.proofs.Common.{◌≡◌, ℕ, List, Result, Ok, Err, IfErr, sym,
 use Rattle.std.specs.Result.{IsErrAnd}
 use Rattle.fj_coeff.specs.Field.{Field}
 use Rattle.fj_theory.specs.Polynomial.{Polynomial}
-use Rattle.fj_theory.specs.Run.{TooHigh, Unfinished}
+use Rattle.fj_groebner.specs.Run.{TooHigh, Unfinished}
 use Rattle.fj_plain.specs.declared.lists.Kept.{Kept}
 use Rattle.fj_plain.specs.declared.order_name.OrderName.{OrderName}
 use Rattle.fj_basis.specs.declared.stop.Stop.{Stop}

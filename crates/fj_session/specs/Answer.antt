@@ -6,7 +6,7 @@ use Rattle.fj_theory.specs.Parts.{Part, IsParts}
 use Rattle.fj_theory.specs.Plain.{PlainPolynomial, polynomial}
 use Rattle.fj_theory.specs.PointIdeal.{UsesFirst}
 use Rattle.fj_theory.specs.Polynomial.{Polynomial, terms_falling}
-use Rattle.fj_theory.specs.ReducedBasis.{IsReducedBasis}
+use Rattle.fj_groebner.specs.ReducedBasis.{IsReducedBasis}
 use Rattle.fj_plain.specs.declared.order_name.OrderName.{OrderName}
 use Rattle.fj_script.specs.declared.question.Asked.{Asked}
 use Rattle.fj_script.specs.declared.question.Question.{Question}

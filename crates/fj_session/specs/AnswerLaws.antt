@@ -2,7 +2,7 @@
 use Rattle.std.specs.Prelude.{List}
 use Rattle.fj_coeff.specs.PrimeField.{prime_field}
 use Rattle.fj_theory.specs.Polynomial.{Polynomial}
-use Rattle.fj_theory.specs.Run.{TooHigh, Unfinished}
+use Rattle.fj_groebner.specs.Run.{TooHigh, Unfinished}
 use Rattle.fj_plain.specs.declared.order_name.OrderName.{OrderName}
 use Rattle.fj_script.specs.declared.question.Asked.{Asked}
 use Rattle.fj_script.specs.declared.script.Env.{Env}

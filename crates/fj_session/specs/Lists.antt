@@ -6,7 +6,7 @@ use Rattle.fj_theory.specs.FrobeniusPower.{frobenius_power}
 use Rattle.fj_theory.specs.Ideal.{products}
 use Rattle.fj_theory.specs.MonomialOrder.{grevlex_key}
 use Rattle.fj_theory.specs.Polynomial.{Polynomial, power, product}
-use Rattle.fj_theory.specs.ReducedBasis.{IsReducedBasis}
+use Rattle.fj_groebner.specs.ReducedBasis.{IsReducedBasis}
 use Rattle.fj_poly.specs.Limit.{IsHigh}
 use Rattle.fj_root.specs.Root.{ArePartsOf}
 

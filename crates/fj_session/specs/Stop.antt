@@ -3,7 +3,7 @@ use Rattle.std.specs.Prelude.{◌≡◌, ℕ, List}
 use Rattle.fj_coeff.specs.Field.{Field}
 use Rattle.fj_theory.specs.MonomialOrder.{elim_key, grevlex_key, grlex_key, lex_key}
 use Rattle.fj_theory.specs.Polynomial.{Polynomial}
-use Rattle.fj_theory.specs.Run.{TooHigh, Unfinished}
+use Rattle.fj_groebner.specs.Run.{TooHigh, Unfinished}
 use Rattle.fj_plain.specs.declared.lists.Kept.{Kept}
 use Rattle.fj_plain.specs.declared.order_name.OrderName.{OrderName}
 use Rattle.fj_plain.specs.declared.order_name.OrderName.TheVariants.{Lex, Grlex, Grevlex, Elim}

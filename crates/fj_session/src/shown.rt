@@ -3,7 +3,7 @@ ghost use Rattle.std.specs.Prelude.{◌≡◌, ◌≤◌, ◌^◌, All, IfErr, I
 ghost use Rattle.fj_theory.specs.Exponents.{total};
 ghost use Rattle.fj_theory.specs.Plain.{HasRanksBelow, polynomial};
 ghost use Rattle.fj_theory.specs.Polynomial.{terms_falling};
-ghost use Rattle.fj_theory.specs.Run.{TooHigh, Unfinished};
+ghost use Rattle.fj_groebner.specs.Run.{TooHigh, Unfinished};
 ghost use Rattle.fj_plain.specs.OrderRow.{order_in_row};
 ghost use Rattle.fj_basis.specs.Outcome.{IsStopWhere};
 ghost use Rattle.fj_session.specs.Answer.{IsShownBasis};

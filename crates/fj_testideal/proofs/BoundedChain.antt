@@ -19,13 +19,13 @@ use Rattle.fj_theory.specs.MonomialOrder.{grevlex_key}
 use Rattle.fj_theory.specs.Polynomial.{Polynomial}
 use Rattle.fj_theory.specs.Ideal.{ArePolynomials, Inside, SameIdeal}
 use Rattle.fj_theory.specs.Lead.{lead_exponents, lead_coefficient}
-use Rattle.fj_theory.specs.ReducedBasis.{LeadDivides, IsReducedBasis}
+use Rattle.fj_groebner.specs.ReducedBasis.{LeadDivides, IsReducedBasis}
 use Rattle.fj_theory.proofs.Keys.{grevlex_key-IsMonomialOrder}
 use Rattle.fj_theory.proofs.FormalSum.{same, same-Decides}
 use Rattle.fj_theory.proofs.PolynomialRing.{PolynomialOver}
 use Rattle.fj_theory.proofs.OrderedPolynomials.{Exponents, polynomials, ordered_polynomials}
 use Rattle.fj_theory.proofs.IdealBridge.{in_ring}
-use Rattle.fj_theory.proofs.ReducedBasis.{IsReducible-from_LeadDivides, IsReducedBasis_polynomials, monic_nonzero}
+use Rattle.fj_groebner.proofs.ReducedBasis.{IsReducible-from_LeadDivides, IsReducedBasis_polynomials, monic_nonzero}
 use Rattle.fj_testideal.specs.BoundedIdeal.{Variables, number_of, IsBoundedMonomial, IsBoundedIdeal, IsLeadIn, AreLeads}
 use Rattle.fj_testideal.specs.LeadLaws.{IsBoundedChain, Repeats}
 use Rattle.fj_testideal.proofs.Counting.{at_most_as_many, fewer}

@@ -13,11 +13,10 @@ use Rattle.fj_theory.proofs.Keys.{grevlex_key-IsMonomialOrder}
 use Rattle.fj_theory.proofs.EighthVariable.{grevlex_degree}
 use Rattle.fj_theory.proofs.Field.{Element}
 use Rattle.fj_theory.proofs.PolynomialRing.{PolynomialOver}
-use Rattle.fj_theory.proofs.OrderedPolynomials.{Exponents, exponents_equal, polynomials, ordered_polynomials}
+use Rattle.fj_theory.proofs.OrderedPolynomials.{positive, Exponents, exponents_equal, polynomials, ordered_polynomials}
 use Rattle.fj_theory.proofs.IdealBridge.{over, maps, InRing, in_ring, Member_polynomial, Member_map, Member_over, Inside_map, Inside_over}
 use Rattle.fj_theory.proofs.Ideal.{Member-Inside, Inside-trans}
 use Rattle.fj_theory.proofs.Lead.{lead_at, IsExponents-lead, IsLead-from_lead, lead_from_IsLead, nonzero_map}
-use Rattle.fj_theory.proofs.ReducedBasis.{positive}
 use Rattle.fj_testideal.specs.BoundedIdeal.{Variables, IsBoundedMonomial, IsBounded, IsBoundedIdeal, IsLeadIn}
 use Rattle.fj_testideal.proofs.Variables.{InVariables, variables_face}
 use Rattle.fj_testideal.proofs.LeadSteps.{LeadOfMember, inside_by_leads}

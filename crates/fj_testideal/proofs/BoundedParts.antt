@@ -22,12 +22,11 @@ use Rattle.fj_theory.proofs.Polynomial.{support_listed, get-coefficient}
 use Rattle.fj_theory.proofs.Degree.{degree_bounds, degree-power}
 use Rattle.fj_theory.proofs.Roots.{iterated_root_zero}
 use Rattle.fj_theory.proofs.PolynomialRing.{PolynomialOver, polynomial_ring, map_power, IsPolynomial-power}
-use Rattle.fj_theory.proofs.OrderedPolynomials.{Exponents, monomials, polynomials, ordered_polynomials}
+use Rattle.fj_theory.proofs.OrderedPolynomials.{positive, positive_back, Exponents, monomials, polynomials, ordered_polynomials}
 use Rattle.fj_theory.proofs.IdealBridge.{over}
 use Rattle.fj_theory.proofs.PartsList.{IsParts-unique, coefficient-part_terms}
 use Rattle.fj_theory.proofs.Terms.{IsTerm-entries, from_entries-entries}
 use Rattle.fj_theory.proofs.PartsExistence.{parts_of, IsParts-parts_of}
-use Rattle.fj_theory.proofs.ReducedBasis.{positive, positive_back}
 use Rattle.fj_theory.proofs.Root.{IsRoot-unique}
 use Rattle.fj_theory.proofs.RootParts.{IsRoot-parts}
 use Rattle.fj_testideal.specs.BoundedIdeal.{Variables, occurs_in, IsBounded, IsBoundedIdeal}

@@ -8,7 +8,7 @@ use Rattle.fj_theory.specs.Polynomial.{Polynomial, IsPolynomial, coefficient, de
 use Rattle.fj_theory.specs.Parts.{Part, IsParts}
 use Rattle.fj_theory.specs.Ideal.{ArePolynomials, Inside, SameIdeal}
 use Rattle.fj_theory.specs.Root.{IsRoot}
-use Rattle.fj_theory.specs.ReducedBasis.{IsReducedBasis}
+use Rattle.fj_groebner.specs.ReducedBasis.{IsReducedBasis}
 use Rattle.fj_testideal.specs.Chain.{FollowsDigits, IsChain}
 use Rattle.fj_testideal.specs.BoundedIdeal.{Variables, number_of, occurs_in, IsBoundedMonomial, IsBounded, IsBoundedIdeal, IsLeadIn, AreLeads}
 

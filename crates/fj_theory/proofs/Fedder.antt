@@ -12,20 +12,18 @@ use Rattle.fj_algebra.proofs.Pairs.{contains_map, contains_map_back}
 use Rattle.fj_algebra.proofs.Splitting as ring_laws
 use Rattle.fj_algebra.proofs.Fedder as ring_criteria
 use Rattle.fj_theory.specs.Exponents.{origin}
-use Rattle.fj_theory.specs.Polynomial.{Polynomial, IsPolynomial, term}
+use Rattle.fj_theory.specs.Polynomial.{difference, Polynomial, IsPolynomial, term}
 use Rattle.fj_theory.specs.Parts.{IsParts}
 use Rattle.fj_theory.specs.Ideal.{ArePolynomials, Member, Inside, SameIdeal, multiples}
 use Rattle.fj_theory.specs.FrobeniusPower.{frobenius_power}
 use Rattle.fj_theory.specs.Root.{IsRoot}
 use Rattle.fj_theory.specs.Colon.{IsColon}
-use Rattle.fj_theory.specs.Division.{difference}
 use Rattle.fj_theory.specs.Evaluation.{IsPoint, value}
 use Rattle.fj_theory.specs.Splitting.{IsInverseLinear, Keeps, IsFPure, IsFPureAt, IsCompatible}
 use Rattle.fj_theory.proofs.Field.{Element, element, element_equal, rank_element, element_zero, rank_zero, field_ring}
-use Rattle.fj_theory.proofs.PolynomialRing.{PolynomialOver, polynomial_ring, map_one, map_mul}
+use Rattle.fj_theory.proofs.PolynomialRing.{map_subtract, PolynomialOver, polynomial_ring, map_one, map_mul}
 use Rattle.fj_theory.proofs.IdealBridge.{over, maps, InRing, in_ring, InRing-multiples, InRing-frobenius_power, Member_map, Member_over, Member_polynomial, Inside_map, Inside_over}
 use Rattle.fj_theory.proofs.Ideal.{Member-Inside}
-use Rattle.fj_theory.proofs.Division.{map_subtract}
 use Rattle.fj_theory.proofs.Evaluation.{value_below, value-RingMap}
 use Rattle.fj_theory.proofs.Root.{Root_over}
 use Rattle.fj_theory.proofs.Colon.{Colon_over}

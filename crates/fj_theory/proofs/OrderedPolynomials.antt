@@ -13,7 +13,7 @@ use Rattle.fj_theory.specs.Polynomial.{coefficient, support, term}
 use Rattle.fj_theory.proofs.Exponents.{plus_comm, plus_assoc, plus_origin, IsExponents-origin, IsExponents-plus, IsExponents-minus, plus-minus, divides-plus}
 use Rattle.fj_theory.proofs.Field.{Element, element_equal, field_ring, zero_below, rank_zero, rank_one, rank_add, rank_mul}
 use Rattle.fj_theory.proofs.FormalSum.{same, same_true, same-Decides}
-use Rattle.fj_theory.proofs.Polynomial.{polynomial_equal, support_exponents, support_listed, coefficient_below, coefficient-sum, coefficient-term, coefficient-term_same, IsPolynomial-term}
+use Rattle.fj_theory.proofs.Polynomial.{polynomial_equal, support_exponents, support_listed, coefficient_below, coefficient-sum, coefficient-term, coefficient-term_same, get-coefficient, IsPolynomial-term}
 use Rattle.fj_theory.proofs.PolynomialRing.{PolynomialOver, over_equal, polynomial_ring, map_add, map_mul}
 use Rattle.fj_theory.proofs.Monomial.{coefficient-product_term, coefficient-product_term_plus}
 use native.Mathlib.Nat.{ℕ_set}
@@ -183,3 +183,20 @@ module _ {F : Field} (L : IsField F) where
   unfoldable pub ordered_polynomials : {key : List ℕ → List ℕ} → IsMonomialOrder key → abstract.OrderedPolynomials (Element F) Exponents (PolynomialOver F)
   unfolding polynomials
   ordered_polynomials K = record { polynomials = polynomials; order = monomial_order K }
+
+module _ {F : Field} (L : IsField F) where
+  pub exponents_of : (f : PolynomialOver F) (a : List ℕ) → 0 < coefficient f.map a → IsExponents a
+  exponents_of f a p = f.is_polynomial.exponents a _ (get-coefficient f.map a p)
+
+  -- A coefficient that is not zero, both ways.
+  pub positive : (g : PolynomialOver F) (a : Exponents) → coefficient_at L g a ≢ (field_ring L).zero → 0 < coefficient g.map a.list
+  unfolding coefficient_at
+  positive g a n = go (coefficient g.map a.list) refl
+    where
+      go : (c : ℕ) → coefficient g.map a.list ≡ c → 0 < coefficient g.map a.list
+      go zero e = absurd (n (element_equal _ _ (e ∙ sym (rank_zero L))))
+      go (suc c) e = omega (arith, e)
+
+  pub positive_back : (g : PolynomialOver F) (a : Exponents) → 0 < coefficient g.map a.list → coefficient_at L g a ≢ (field_ring L).zero
+  unfolding coefficient_at
+  positive_back g a h e = let r = ap (λ x. x.rank) e ∙ rank_zero L in absurd (omega (arith, h, r))

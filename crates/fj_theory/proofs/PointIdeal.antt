@@ -11,16 +11,14 @@ use Rattle.fj_coeff.specs.Field.{Field, IsField}
 use Rattle.fj_algebra.specs.Ring.{CommutativeRing, subtract}
 use Rattle.fj_algebra.proofs.Ring.{ring_laws}
 use Rattle.fj_theory.specs.Exponents.{IsExponents, origin, plus, total}
-use Rattle.fj_theory.specs.Polynomial.{Polynomial, IsPolynomial, coefficient, sum, product, term}
+use Rattle.fj_theory.specs.Polynomial.{difference, Polynomial, IsPolynomial, coefficient, sum, product, term}
 use Rattle.fj_theory.specs.Ideal.{ArePolynomials, Member}
-use Rattle.fj_theory.specs.Division.{difference}
 use Rattle.fj_theory.specs.Evaluation.{IsPoint, monomial_value, value, IsZeroOf}
 use Rattle.fj_theory.specs.PointIdeal.{variable_exponents, less_coordinate, point_ideal, UsesFirst}
 use Rattle.fj_theory.proofs.Exponents.{cons_same, total-cons, IsExponents-origin, origin_from_total, plus_origin, origin_plus}
 use Rattle.fj_theory.proofs.Field.{zero_below, one_below}
-use Rattle.fj_theory.proofs.PolynomialRing.{polynomial_ring, map_zero, map_add, map_mul, IsPolynomial-negation, sum_negation}
+use Rattle.fj_theory.proofs.PolynomialRing.{map_subtract, polynomial_ring, map_zero, map_add, map_mul, IsPolynomial-negation, sum_negation}
 use Rattle.fj_theory.proofs.IdealBridge.{over}
-use Rattle.fj_theory.proofs.Division.{map_subtract}
 use Rattle.fj_theory.proofs.Ideal.{Member-Contains, Member-empty, Member-sum, Member-product}
 use Rattle.fj_theory.proofs.Polynomial.{coefficient_below, coefficient-sum, coefficient-term, IsPolynomial-empty, IsPolynomial-term, IsPolynomial-sum}
 use Rattle.fj_theory.proofs.FormalSum.{same, same_itself, same_false}

@@ -4,13 +4,13 @@ use Rattle.std.specs.List.{list_any}
 use Rattle.std.specs.FinMap.{empty}
 use Rattle.fj_coeff.specs.Field.{Field, IsField}
 use Rattle.fj_algebra.specs.Power as ring
-use Rattle.fj_algebra.specs.Ring.{CommutativeRing}
+use Rattle.fj_algebra.specs.Ring.{CommutativeRing, subtract}
 use Rattle.fj_algebra.specs.Sum.{sum_over}
 use Rattle.fj_algebra.proofs.Power.{power-add, power-mul, power-power}
 use Rattle.fj_algebra.proofs.Ring.{add_zero, add_mul, mul_zero}
 use Rattle.fj_algebra.proofs.Sum.{sum_over-same, sum_over-exchange, sum_over-add}
 use Rattle.fj_theory.specs.Exponents.{IsExponents, origin, plus}
-use Rattle.fj_theory.specs.Polynomial.{Polynomial, IsPolynomial, coefficient, support, term, sum, negation, product, power}
+use Rattle.fj_theory.specs.Polynomial.{Polynomial, IsPolynomial, coefficient, difference, support, term, sum, negation, product, power}
 use Rattle.fj_theory.proofs.Exponents.{plus_comm, plus_assoc, plus_origin, IsExponents-origin}
 use Rattle.fj_theory.proofs.Field.{Element, element, rank_element, element_zero, element_one, zero_below, one_below}
 use Rattle.fj_theory.proofs.FormalSum.{same, FormalSum, weigh, at_exponents, coefficient_in, IsAdditive, at_exponents-IsAdditive, weigh_same}
@@ -240,3 +240,9 @@ module _ {F : Field} (L : IsField F) where
     pub product_empty : product F f empty ≡ empty
     unfolding over
     product_empty = sym (map_mul over polynomial_ring.zero ∙ ap (product F f) map_zero) ∙ ap (λ x. x.map) (mul_zero polynomial_ring over) ∙ map_zero
+
+module _ {F : Field} (L : IsField F) where
+  -- The difference in the ring.
+  pub map_subtract : (f g : PolynomialOver F) → (subtract (polynomial_ring L) f g).map ≡ difference F f.map g.map
+  unfolding difference
+  map_subtract f g = map_add L f ((polynomial_ring L).neg g) ∙ ap (sum F f.map) (map_neg L g)

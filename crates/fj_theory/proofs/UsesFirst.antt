@@ -16,8 +16,7 @@ use Rattle.fj_theory.specs.FrobeniusPower.{frobenius_power}
 use Rattle.fj_theory.specs.Ideal.{ArePolynomials, list_combination, multiples, products}
 use Rattle.fj_theory.specs.Parts.{Part, IsParts, part_at}
 use Rattle.fj_theory.specs.PointIdeal.{UsesFirst, variable_exponents}
-use Rattle.fj_theory.specs.Polynomial.{Polynomial, IsPolynomial, coefficient, degree, sum, negation, product, power, term}
-use Rattle.fj_theory.specs.Division.{difference}
+use Rattle.fj_theory.specs.Polynomial.{difference, Polynomial, IsPolynomial, coefficient, degree, sum, negation, product, power, term}
 use Rattle.fj_theory.specs.RootLaws.{WithParts}
 use Rattle.fj_theory.proofs.Degree.{degree_attained, empty_from_degree}
 use Rattle.fj_theory.proofs.Field.{zero_below}
@@ -25,11 +24,10 @@ use Rattle.fj_theory.proofs.FormalSum.{same, same_true, same_itself, same_false}
 use Rattle.fj_theory.proofs.Frobenius.{power_positive}
 use Rattle.fj_theory.proofs.IdealBridge.{over, InRing, ArePolynomials-head, ArePolynomials-tail}
 use Rattle.fj_theory.proofs.Keys.{grevlex_key-IsMonomialOrder, index-plus}
-use Rattle.fj_theory.proofs.OrderedPolynomials.{Exponents, monomials, polynomials, ordered_polynomials, times as monomial_times}
+use Rattle.fj_theory.proofs.OrderedPolynomials.{exponents_of, positive, positive_back, Exponents, monomials, polynomials, ordered_polynomials, times as monomial_times}
 use Rattle.fj_theory.proofs.Parts.{residues_of, IsFamily-from_IsParts, part_at-coefficient}
 use Rattle.fj_theory.proofs.Polynomial.{coefficient-empty, coefficient-sum, coefficient-term, coefficient_below, get-coefficient}
 use Rattle.fj_theory.proofs.PolynomialRing.{PolynomialOver, polynomial_ring, map_mul, neg_zero_rank, coefficient-negation, IsPolynomial-power, power_zero, power_suc}
-use Rattle.fj_theory.proofs.ReducedBasis.{exponents_of, positive, positive_back}
 use Rattle.fj_theory.proofs.Residues.{Distinct}
 use Rattle.fj_theory.proofs.Roots.{field_power_positive}
 use Rattle.fj_theory.proofs.Variables.{exponent_at, variable_at, get_or-origin}

@@ -14,17 +14,9 @@ pub mod Evaluation
 pub mod RootLaws
 pub mod PointIdeal
 pub mod Lead
-pub mod ReducedBasis
 pub mod Steps
-pub mod Division
-pub mod Run
-pub mod Elimination
-pub mod Criterion
-pub mod BasisLaws
 pub mod PolynomialLaws
 pub mod Plain
 pub mod Certificate
-pub mod Rows
-pub mod DegreeOrder
 pub mod Splitting
 pub mod SplittingLaws

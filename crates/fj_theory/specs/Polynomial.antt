@@ -55,6 +55,10 @@ sum F f g = with_coefficients (λ a. F.add (coefficient f a) (coefficient g a)) 
 unfoldable pub negation : Field → Polynomial → Polynomial
 negation F f = with_coefficients (λ a. F.neg (coefficient f a)) (support f)
 
+-- The difference f - g.
+unfoldable pub difference : Field → Polynomial → Polynomial → Polynomial
+difference F f g = sum F f (negation F g)
+
 -- The sum in the field of the values of a function at the members of a list.
 unfoldable pub total_over : Field → (List ℕ → ℕ) → List (List ℕ) → ℕ
 total_over F c [] = 0

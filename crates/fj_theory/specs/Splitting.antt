@@ -4,10 +4,9 @@ use Rattle.std.specs.Prelude.{◌≡◌, ◌≢◌, ℕ, ◌-◌, ◌^◌, ◌<�
 use Rattle.std.specs.FinMap.{empty}
 use Rattle.fj_coeff.specs.Field.{Field}
 use Rattle.fj_theory.specs.Exponents.{IsExponents, origin}
-use Rattle.fj_theory.specs.Polynomial.{Polynomial, IsPolynomial, sum, product, term}
+use Rattle.fj_theory.specs.Polynomial.{difference, Polynomial, IsPolynomial, sum, product, term}
 use Rattle.fj_theory.specs.Parts.{Part, IsParts, part_at}
 use Rattle.fj_theory.specs.Ideal.{Member}
-use Rattle.fj_theory.specs.Division.{difference}
 use Rattle.fj_theory.specs.Evaluation.{value}
 
 -- The sum of h_a * k_a over a list of parts h_a at residues a.

@@ -1,4 +1,4 @@
-use Rattle.fj_theory.proofs.Turns.{IsFinished-TooHigh, IsFinished-Unfinished, Unfinished-TooHigh}
+use Rattle.fj_groebner.proofs.Turns.{IsFinished-TooHigh, IsFinished-Unfinished, Unfinished-TooHigh}
 use Rattle.fj_basis.proofs.MadeRows.{AreRows-long}
 use Rattle.fj_basis.proofs.calculation.basis.Goals as goal
 

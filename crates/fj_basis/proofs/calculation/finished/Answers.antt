@@ -6,8 +6,8 @@ use Rattle.fj_coeff.specs.Field.{Field}
 use Rattle.fj_algebra.proofs.Lists.{All-map_back}
 use Rattle.fj_theory.specs.Polynomial.{Polynomial}
 use Rattle.fj_theory.specs.Ideal.{ArePolynomials}
-use Rattle.fj_theory.specs.Division.{IsHighDivision, polynomials_of}
-use Rattle.fj_theory.specs.Run.{given}
+use Rattle.fj_groebner.specs.Division.{IsHighDivision, polynomials_of}
+use Rattle.fj_groebner.specs.Run.{given}
 use Rattle.fj_basis.specs.declared.members.Member.{Member}
 use Rattle.fj_basis.specs.declared.run.Run.{Run}
 use Rattle.fj_basis.specs.Finished.{AreQuotients}

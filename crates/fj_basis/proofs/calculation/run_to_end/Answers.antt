@@ -4,8 +4,8 @@ use Rattle.std.proofs.lemmas.Result.{err_from_is_err_and}
 use Rattle.fj_algebra.proofs.Pairs.{contains_nil}
 use Rattle.fj_poly.specs.declared.fault.PolyFault.{PolyFault}
 use Rattle.fj_poly.specs.declared.fault.PolyFault.TheVariants.{High, Memory}
-use Rattle.fj_theory.specs.Run.{IsRun, in_turn}
-use Rattle.fj_theory.specs.Run as definition
+use Rattle.fj_groebner.specs.Run.{IsRun, in_turn}
+use Rattle.fj_groebner.specs.Run as definition
 use Rattle.fj_basis.specs.declared.calculation.RunFault.{RunFault}
 use Rattle.fj_basis.specs.declared.pairs.Pair.{Pair}
 use Rattle.fj_basis.specs.Outcome.{IsFaultOnlyWhere, IsHighOnlyWhere, run_fault}

@@ -3,7 +3,7 @@ use Rattle.std.proofs.lemmas.List.{get_or-map, length-map}
 use Rattle.fj_theory.specs.Exponents.{origin}
 use Rattle.fj_theory.specs.Ideal.{ArePolynomials}
 use Rattle.fj_theory.specs.Polynomial.{negation, product, term}
-use Rattle.fj_theory.specs.Rows.{add_multiple}
+use Rattle.fj_groebner.specs.Rows.{add_multiple}
 use Rattle.fj_theory.proofs.PolynomialRing.{IsPolynomial-negation}
 use Rattle.fj_poly.specs.Limit.{IsHigh}
 use Rattle.fj_basis.specs.Members.{sugared}

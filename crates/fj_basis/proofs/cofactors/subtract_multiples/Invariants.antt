@@ -1,7 +1,7 @@
 use Rattle.std.proofs.Common.{◌≡◌, map, take}
 use Rattle.fj_theory.specs.Ideal.{ArePolynomials}
 use Rattle.fj_theory.specs.Polynomial.{negation}
-use Rattle.fj_theory.specs.Rows.{add_multiples}
+use Rattle.fj_groebner.specs.Rows.{add_multiples}
 use Rattle.fj_basis.proofs.cofactors.subtract_multiples.Given as goal
 
 -- the members so far

@@ -5,11 +5,11 @@ use Rattle.std.proofs.lemmas.List.{length-map}
 use Rattle.std.proofs.lemmas.List.Elements.{All-map, All-weaker}
 use Rattle.fj_theory.specs.Ideal.{ArePolynomials, list_combination}
 use Rattle.fj_theory.specs.Polynomial.{Polynomial, IsPolynomial, sum}
-use Rattle.fj_theory.specs.Run.{given}
-use Rattle.fj_theory.specs.Division.{DegreeAtMost, IsHighDivision, IsLowDivision}
-use Rattle.fj_theory.proofs.DegreeOrder.{polynomials_of-given, IsHighDivision-degree}
-use Rattle.fj_theory.proofs.Division.{IsLowDivision-IsHighDivision, division_identity, IsDivision-length}
-use Rattle.fj_theory.proofs.Sugar.{given-DegreeAtMost}
+use Rattle.fj_groebner.specs.Run.{given}
+use Rattle.fj_groebner.specs.Division.{DegreeAtMost, IsHighDivision, IsLowDivision}
+use Rattle.fj_groebner.proofs.DegreeOrder.{polynomials_of-given, IsHighDivision-degree}
+use Rattle.fj_groebner.proofs.Division.{IsLowDivision-IsHighDivision, division_identity, IsDivision-length}
+use Rattle.fj_groebner.proofs.Sugar.{given-DegreeAtMost}
 use Rattle.fj_basis.proofs.Faults.{handed_on}
 use Rattle.fj_basis.proofs.division.divide.Goals as goal
 

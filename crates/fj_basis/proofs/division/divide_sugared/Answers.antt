@@ -1,8 +1,8 @@
 use Rattle.std.proofs.Common.{◌<◌, List, map, ◌∙◌, sym, subst, ⊎_elim}
 use Rattle.std.proofs.lemmas.Bool.{cases_lt}
 use Rattle.std.proofs.lemmas.Result.{err_from_is_err_and}
-use Rattle.fj_theory.specs.Division.{Sugared, degree_limit}
-use Rattle.fj_theory.proofs.Division.{IsLowDivision-IsHighDivision}
+use Rattle.fj_groebner.specs.Division.{Sugared, degree_limit}
+use Rattle.fj_groebner.proofs.Division.{IsLowDivision-IsHighDivision}
 use Rattle.fj_basis.proofs.Faults.{handed_on}
 use Rattle.fj_basis.proofs.Reached.{start-is, Reached-start, Reached-step, Reached-end, Reached-high, Reached-falls, after-step, after-sugar, next-sugar}
 use Rattle.fj_basis.proofs.division.divide_sugared.Goals as goal

@@ -1,7 +1,7 @@
 use Rattle.std.proofs.Common.{sym, subst}
 use Rattle.std.proofs.lemmas.Result.{err_from_is_err_and}
-use Rattle.fj_theory.specs.Division.{DegreeAtMost, IsHighDivision, IsLowDivision}
-use Rattle.fj_theory.proofs.Sugar.{given-DegreeAtMost}
+use Rattle.fj_groebner.specs.Division.{DegreeAtMost, IsHighDivision, IsLowDivision}
+use Rattle.fj_groebner.proofs.Sugar.{given-DegreeAtMost}
 use Rattle.fj_basis.specs.Members.{sugared_members}
 use Rattle.fj_basis.proofs.HighOnly.{handed_only}
 use Rattle.fj_basis.proofs.FinishingRows.{given-sugared}

@@ -1,5 +1,5 @@
 use Rattle.std.proofs.Common.{◌∷◌, ◌++◌, [], ap₂, sym, ◌∙◌}
-use Rattle.fj_theory.specs.Run.{is_left_out}
+use Rattle.fj_groebner.specs.Run.{is_left_out}
 use Rattle.fj_basis.specs.Members.{sugared_members}
 use Rattle.fj_basis.proofs.FinishingActs.{map-range-more}
 use Rattle.fj_basis.proofs.finishing.left_out.Goals as goal

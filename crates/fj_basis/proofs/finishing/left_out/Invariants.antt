@@ -1,6 +1,6 @@
 use Rattle.std.proofs.Common.{◌≡◌, map}
 use Rattle.std.specs.List.{range_with_len}
-use Rattle.fj_theory.specs.Run.{is_left_out}
+use Rattle.fj_groebner.specs.Run.{is_left_out}
 use Rattle.fj_basis.specs.Members.{sugared_members}
 use Rattle.fj_basis.proofs.finishing.left_out.Given as goal
 

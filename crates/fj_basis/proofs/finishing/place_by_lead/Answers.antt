@@ -5,7 +5,7 @@ use Rattle.std.proofs.lemmas.List.Elements.{All-append, All-cons, All-take, All-
 use Rattle.fj_algebra.proofs.Pairs.{contains_head, contains_tail, All-from_elements}
 use Rattle.fj_theory.specs.MonomialOrder.{compare_by}
 use Rattle.fj_theory.specs.Lead.{lead_exponents}
-use Rattle.fj_theory.specs.Run.{place_by_lead}
+use Rattle.fj_groebner.specs.Run.{place_by_lead}
 use Rattle.fj_basis.specs.Members.{sugared, sugared_members}
 use Rattle.fj_basis.proofs.FinishingActs.{IsBehind-more, IsBehind-end, IsBehind-stop}
 use Rattle.fj_basis.proofs.finishing.place_by_lead.Goals as goal

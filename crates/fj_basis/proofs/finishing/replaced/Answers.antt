@@ -2,7 +2,7 @@ use Rattle.std.proofs.Common.{◌≡◌, ◌++◌, ◌∷◌, [], List, ℕ, sym
 use Rattle.std.proofs.lemmas.Result.{err_from_is_err_and}
 use Rattle.fj_coeff.specs.Field.{Field, IsField}
 use Rattle.fj_theory.specs.MonomialOrder.{IsMonomialOrder}
-use Rattle.fj_theory.specs.Division.{IsHighDivision}
+use Rattle.fj_groebner.specs.Division.{IsHighDivision}
 use Rattle.fj_basis.specs.declared.members.Member.{Member}
 use Rattle.fj_basis.specs.Finished.{AreMembersOfRun, IsHighReplacing, IsReplacementOf}
 use Rattle.fj_basis.specs.Members.{sugared, sugared_members}

@@ -1,8 +1,8 @@
 use Rattle.std.proofs.Common.{◌≡◌, length, map, sym, ap, ap₂, ◌∙◌, subst}
 use Rattle.std.proofs.lemmas.List.{with_items_is}
 use Rattle.fj_theory.specs.Polynomial.{negation}
-use Rattle.fj_theory.specs.Rows.{add_multiples}
-use Rattle.fj_theory.specs.Division.{degree_limit}
+use Rattle.fj_groebner.specs.Rows.{add_multiples}
+use Rattle.fj_groebner.specs.Division.{degree_limit}
 use Rattle.fj_basis.specs.Members.{sugared_members}
 use Rattle.fj_basis.specs.Quotients.{AreQuotientsWithin}
 use Rattle.fj_basis.proofs.FinishingRows.{quotients_within}

@@ -5,7 +5,7 @@ use Rattle.std.proofs.lemmas.List.{length-map, take_all}
 use Rattle.std.proofs.lemmas.List.FromFn.{length-map-range_with_len, get_or-map-range_with_len}
 use Rattle.std.proofs.lemmas.List.Elements.{All-nil, All-weaker, All-contains}
 use Rattle.fj_algebra.proofs.Pairs.{contains_cons}
-use Rattle.fj_theory.specs.Run.{is_left_out, sort_by_lead, place_by_lead}
+use Rattle.fj_groebner.specs.Run.{is_left_out, sort_by_lead, place_by_lead}
 use Rattle.fj_basis.specs.declared.members.Member.{Member}
 use Rattle.fj_basis.specs.Members.{sugared, sugared_members}
 use Rattle.fj_basis.proofs.FinishingActs.{kept_from, kept_from-zero, kept_from-end, kept_from-left, kept_from-kept, popped}

@@ -1,5 +1,5 @@
 use Rattle.std.proofs.Common.{◌≡◌, ◌≤◌, length, take, All, Contains}
-use Rattle.fj_theory.specs.Run.{sort_by_lead}
+use Rattle.fj_groebner.specs.Run.{sort_by_lead}
 use Rattle.fj_basis.specs.Members.{sugared_members}
 use Rattle.fj_basis.proofs.FinishingActs.{kept_from}
 use Rattle.fj_basis.proofs.finishing.sorted_by_lead.Given as goal

@@ -1,7 +1,7 @@
 use Rattle.std.proofs.Common.{◌≡◌, ◌≤◌, ℕ, Option, Some, None, unwrap_or, refl, ap, ◌∙◌, arith}
 use Rattle.fj_theory.specs.Polynomial.{Polynomial, degree}
-use Rattle.fj_theory.specs.Run.{given}
-use Rattle.fj_theory.specs.Division.{degree_limit}
+use Rattle.fj_groebner.specs.Run.{given}
+use Rattle.fj_groebner.specs.Division.{degree_limit}
 use Rattle.fj_poly.specs.Limit.{IsHigh}
 use Rattle.fj_poly.proofs.Limits.{degree_within}
 use Rattle.fj_basis.proofs.handed.sugar_of.Goals as goal

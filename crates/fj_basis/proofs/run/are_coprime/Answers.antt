@@ -1,5 +1,5 @@
 use Rattle.std.proofs.Common.{◌+◌, ◌<◌, length, drop, get_or, ◌∙◌, sym, arith}
-use Rattle.fj_theory.specs.Run.{are_coprime}
+use Rattle.fj_groebner.specs.Run.{are_coprime}
 use Rattle.fj_basis.proofs.Places.{coprime-more, coprime-end, coprime-none, coprime-first, coprime-second}
 use Rattle.fj_basis.proofs.run.are_coprime.Goals as goal
 use Rattle.fj_basis.proofs.run.are_coprime.Goals.{else-exp-ne0-via-then-exp-ne0+else-exp-ne0-2, else-exp-ne0-via-else-exp-ne0}

@@ -1,5 +1,5 @@
 use Rattle.std.proofs.Common.{◌≡◌, drop}
-use Rattle.fj_theory.specs.Run.{are_coprime}
+use Rattle.fj_groebner.specs.Run.{are_coprime}
 use Rattle.fj_basis.proofs.run.are_coprime.Given as goal
 
 abbrev pub invariant-loop-i : goal.invariant-loop-i

@@ -5,7 +5,7 @@ use Rattle.std.proofs.lemmas.List.{get_or_default}
 use Rattle.fj_theory.specs.Exponents.{origin}
 use Rattle.fj_theory.specs.Lead.{lead_coefficient}
 use Rattle.fj_theory.specs.Polynomial.{product, term}
-use Rattle.fj_theory.specs.Run.{given}
+use Rattle.fj_groebner.specs.Run.{given}
 use Rattle.fj_theory.proofs.Lead.{lead_coefficient-nonzero}
 use Rattle.fj_basis.proofs.DivisionState.{lead-none, lead-parts, some-lead}
 use Rattle.fj_basis.proofs.NextMember.{monic-is}

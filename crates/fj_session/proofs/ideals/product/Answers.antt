@@ -1,7 +1,7 @@
 use Rattle.std.proofs.Common.{◌≡◌, inl, inr, sym, subst, refl}
 use Rattle.std.specs.Prelude.{MatchOption}
 use Rattle.fj_theory.specs.MonomialOrder.{grevlex_key}
-use Rattle.fj_theory.specs.ReducedBasis.{IsReducedBasis}
+use Rattle.fj_groebner.specs.ReducedBasis.{IsReducedBasis}
 use Rattle.fj_ideal.specs.Ideal.{IsIdealOf}
 use Rattle.fj_script.specs.declared.question.Question.TheVariants as questions
 use Rattle.fj_session.specs.Named.{ideal_at}

@@ -5,7 +5,7 @@ use Rattle.fj_theory.specs.Exponents.{divides, minus, total}
 use Rattle.fj_theory.specs.MonomialOrder.{compare_by}
 use Rattle.fj_theory.specs.Polynomial.{IsPolynomial, lead, sum, product, term, terms_falling}
 use Rattle.fj_theory.specs.Lead.{lead_exponents, lead_coefficient}
-use Rattle.fj_theory.specs.Division.{cancel_lead}
+use Rattle.fj_groebner.specs.Division.{cancel_lead}
 use Rattle.std.proofs.lemmas.List.{get_or_default}
 use Rattle.fj_theory.proofs.Field.{zero_below}
 use Rattle.fj_theory.proofs.Lead.{lead_coefficient-nonzero, lead_coefficient-below}

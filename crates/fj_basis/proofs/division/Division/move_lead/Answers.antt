@@ -1,6 +1,6 @@
 use Rattle.std.proofs.Common.{◌<◌, ◌≤◌, ap, ◌∙◌, sym, arith}
 use Rattle.std.specs.FinMap.{len}
-use Rattle.fj_theory.specs.Division.{move_lead}
+use Rattle.fj_groebner.specs.Division.{move_lead}
 use Rattle.fj_basis.proofs.Left.{back-none}
 use Rattle.fj_basis.proofs.DivisionState.{seen-move_lead}
 use Rattle.fj_basis.proofs.division.Division.move_lead.Goals as goal

@@ -6,8 +6,8 @@ use Rattle.fj_theory.specs.Exponents.{divides, minus}
 use Rattle.fj_theory.specs.MonomialOrder.{compare_by}
 use Rattle.fj_theory.specs.Polynomial.{terms_falling}
 use Rattle.fj_theory.specs.Lead.{lead_exponents}
-use Rattle.fj_theory.specs.Division.{Sugared, DegreeAtMost, member_at}
-use Rattle.fj_theory.proofs.Division.{first_divisor-Some}
+use Rattle.fj_groebner.specs.Division.{Sugared, DegreeAtMost, member_at}
+use Rattle.fj_groebner.proofs.Division.{first_divisor-Some}
 use Rattle.fj_basis.proofs.DivisionState.{lead-parts, some-lead}
 use Rattle.fj_basis.proofs.DivisionSteps.{within_at, sugared_same, member_at-map, nonzero_list, step_by-cancel, step_by-move, sugar-cancel, sugar-move}
 use Rattle.fj_basis.proofs.Faults.{same_condition}

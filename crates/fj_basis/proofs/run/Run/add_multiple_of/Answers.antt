@@ -2,8 +2,8 @@ use Rattle.std.proofs.Common.{IsTrue, length, All, ap, ap₂, ◌∙◌, sym, su
 use Rattle.std.proofs.lemmas.Result.{on_ok_weaker}
 use Rattle.fj_theory.specs.Exponents.{divides, minus}
 use Rattle.fj_theory.specs.Polynomial.{product, term}
-use Rattle.fj_theory.specs.Rows.{add_multiple}
-use Rattle.fj_theory.specs.Division.{DegreeAtMost}
+use Rattle.fj_groebner.specs.Rows.{add_multiple}
+use Rattle.fj_groebner.specs.Division.{DegreeAtMost}
 use Rattle.fj_poly.specs.Limit.{IsHigh}
 use Rattle.fj_basis.specs.Members.{sugared_members}
 use Rattle.fj_basis.proofs.Leading.{places, member_is, lead_of-is, nonzero_at, nonzero_members, state-good, row_at-is, traced_at, row-low}

@@ -3,9 +3,9 @@ use Rattle.std.proofs.lemmas.Result.{on_ok_weaker}
 use Rattle.fj_theory.specs.Exponents.{IsExponents, divides, minus, total}
 use Rattle.fj_theory.specs.Ideal.{ArePolynomials}
 use Rattle.fj_theory.specs.Polynomial.{IsPolynomial, term, negation}
-use Rattle.fj_theory.specs.Rows.{add_multiples}
-use Rattle.fj_theory.specs.Division.{member_at}
-use Rattle.fj_theory.specs.Run.{lead_of}
+use Rattle.fj_groebner.specs.Rows.{add_multiples}
+use Rattle.fj_groebner.specs.Division.{member_at}
+use Rattle.fj_groebner.specs.Run.{lead_of}
 use Rattle.fj_theory.proofs.Exponents.{IsExponents-minus}
 use Rattle.fj_theory.proofs.Polynomial.{IsPolynomial-term}
 use Rattle.fj_basis.specs.Members.{sugared_members, IsRowWithin}

@@ -1,5 +1,5 @@
 use Rattle.std.proofs.Common.{ap₂, ◌∙◌, sym}
-use Rattle.fj_theory.specs.Run.{are_coprime, has_coprime_leads}
+use Rattle.fj_groebner.specs.Run.{are_coprime, has_coprime_leads}
 use Rattle.fj_basis.proofs.Leading.{lead_of-is}
 use Rattle.fj_basis.proofs.run.Run.has_coprime_leads.Goals as goal
 

@@ -6,8 +6,8 @@ use Rattle.fj_theory.specs.Exponents.{origin}
 use Rattle.fj_theory.specs.Ideal.{ArePolynomials}
 use Rattle.fj_theory.specs.Lead.{lead_coefficient}
 use Rattle.fj_theory.specs.Polynomial.{product, term}
-use Rattle.fj_theory.specs.Division.{AreWithinSugars, DegreeAtMost, IsLowDivision, degree_limit, polynomials_of}
-use Rattle.fj_theory.specs.Run.{s_polynomial}
+use Rattle.fj_groebner.specs.Division.{AreWithinSugars, DegreeAtMost, IsLowDivision, degree_limit, polynomials_of}
+use Rattle.fj_groebner.specs.Run.{s_polynomial}
 use Rattle.fj_theory.proofs.Lead.{lead_coefficient-nonzero}
 use Rattle.fj_basis.specs.Members.{sugared_members}
 use Rattle.fj_basis.specs.Quotients.{AreQuotientsWithin}

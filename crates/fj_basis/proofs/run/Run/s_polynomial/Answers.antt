@@ -1,8 +1,8 @@
 use Rattle.std.proofs.Common.{◌≡◌, ◌<◌, ◌-◌, IsTrue, ap, ap₂, ◌∙◌, sym, subst, subst₂, arith}
 use Rattle.fj_theory.specs.Exponents.{divides, minus, total}
-use Rattle.fj_theory.specs.Polynomial.{product, term, sum, negation}
-use Rattle.fj_theory.specs.Division.{member_at, degree_limit, difference}
-use Rattle.fj_theory.specs.Run.{lead_of, pair_multiple}
+use Rattle.fj_theory.specs.Polynomial.{difference, product, term, sum, negation}
+use Rattle.fj_groebner.specs.Division.{member_at, degree_limit}
+use Rattle.fj_groebner.specs.Run.{lead_of, pair_multiple}
 use Rattle.fj_basis.specs.Members.{sugared_members}
 use Rattle.fj_basis.specs.Place.{IsWithinLimit}
 use Rattle.fj_basis.proofs.Leading.{places, nonzero_members, state-good, first-divides, second-divides, s-sugar, s-polynomial, s-is}

@@ -2,7 +2,7 @@ use Rattle.std.proofs.Common.{◌≡◌, List, map, sym, ◌∙◌, subst, subst
 use Rattle.fj_coeff.specs.Field.{Field}
 use Rattle.fj_theory.specs.Polynomial.{Polynomial}
 use Rattle.fj_theory.specs.Plain.{polynomial}
-use Rattle.fj_theory.specs.Rows.{AreRows}
+use Rattle.fj_groebner.specs.Rows.{AreRows}
 use Rattle.fj_basis.proofs.Expressed.{IsExpressedBothWays-from}
 use Rattle.fj_basis.proofs.types.Basis.cert.Goals as goal
 

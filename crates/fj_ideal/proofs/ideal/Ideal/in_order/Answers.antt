@@ -2,8 +2,8 @@ use Rattle.std.proofs.Common.{◌≡◌, ◌∙◌, List, subst, length, IfOk}
 use Rattle.std.proofs.lemmas.List.{take_all}
 use Rattle.std.proofs.lemmas.Result.{IfOk-weaker}
 use Rattle.fj_theory.specs.Polynomial.{Polynomial}
-use Rattle.fj_theory.specs.ReducedBasis.{IsReducedBasis}
-use Rattle.fj_theory.specs.Run.{Unfinished, TooHigh}
+use Rattle.fj_groebner.specs.ReducedBasis.{IsReducedBasis}
+use Rattle.fj_groebner.specs.Run.{Unfinished, TooHigh}
 use Rattle.fj_plain.specs.OrderRow.{order_in_row}
 use Rattle.fj_basis.specs.Basis.{IsMadeOf}
 use Rattle.fj_basis.specs.Outcome.{IsStopWhere}

@@ -4,9 +4,9 @@ use Rattle.std.specs.FinMap.{empty}
 use Rattle.fj_theory.specs.Ideal.{Member, list_combination}
 use Rattle.fj_theory.specs.MonomialOrder.{grevlex_key}
 use Rattle.fj_theory.specs.Polynomial.{Polynomial, sum}
-use Rattle.fj_theory.specs.Rows.{IsRow}
-use Rattle.fj_theory.specs.Run.{given}
-use Rattle.fj_theory.proofs.DegreeOrder.{grevlex_key-IsDegreeOrder}
+use Rattle.fj_groebner.specs.Rows.{IsRow}
+use Rattle.fj_groebner.specs.Run.{given}
+use Rattle.fj_groebner.proofs.DegreeOrder.{grevlex_key-IsDegreeOrder}
 use Rattle.fj_basis.specs.Quotients.{IsDivided}
 use Rattle.fj_ideal.proofs.ReducedBasis.{members_nonzero, Member-remainder, IsRow-quotients}
 use Rattle.fj_ideal.proofs.ideal.Ideal.member.Goals as goal

@@ -1,7 +1,7 @@
 use Rattle.std.proofs.Common.{List, subst}
 use Rattle.fj_theory.specs.MonomialOrder.{grevlex_key}
 use Rattle.fj_theory.specs.Polynomial.{Polynomial}
-use Rattle.fj_theory.specs.Run.{Unfinished, TooHigh}
+use Rattle.fj_groebner.specs.Run.{Unfinished, TooHigh}
 use Rattle.fj_ideal.proofs.ideal.Ideal.of_owned.Goals as goal
 
 pub returns-clause-stop : goal.returns-clause-stop

@@ -1,0 +1,15 @@
+pub mod ReducedBasis
+pub mod Division
+pub mod Elimination
+pub mod Multiple
+pub mod Turns
+pub mod Run
+pub mod Sorting
+pub mod Finishing
+pub mod Criterion
+pub mod Sugar
+pub mod Replacing
+pub mod Lacking
+pub mod Rows
+pub mod IdealOperations
+pub mod DegreeOrder

@@ -1,0 +1,51 @@
+-- Laws of reduced bases and of the run that calculates them, which the law functions prove.
+use Rattle.std.specs.Prelude.{◌≡◌, ◌≢◌, ℕ, List, All}
+use Rattle.std.specs.FinMap.{empty}
+use Rattle.fj_coeff.specs.Field.{Field, IsField}
+use Rattle.fj_theory.specs.MonomialOrder.{IsMonomialOrder, elim_key, grevlex_key}
+use Rattle.fj_theory.specs.Polynomial.{Polynomial}
+use Rattle.fj_theory.specs.Ideal.{ArePolynomials, Member, SameIdeal}
+use Rattle.fj_theory.specs.Colon.{IsMeet}
+use Rattle.fj_theory.specs.PointIdeal.{UsesFirst}
+use Rattle.fj_theory.specs.Lead.{lead_exponents, lead_coefficient}
+use Rattle.fj_groebner.specs.ReducedBasis.{LeadDivides, IsReducedBasis}
+use Rattle.fj_groebner.specs.Division.{Sugared, polynomials_of}
+use Rattle.fj_groebner.specs.Run.{IsFinished, Unfinished, TooHigh}
+use Rattle.fj_groebner.specs.Criterion.{AllSettled}
+use Rattle.fj_groebner.specs.Elimination.{elimination_list, without_eighth}
+
+-- Lists of one ideal have one reduced basis for an order.
+abbrev pub OneReducedBasis : Type 0
+OneReducedBasis =
+    (F : Field) → IsField F → (key : List ℕ → List ℕ) → IsMonomialOrder key → (L M G H : List Polynomial) → ArePolynomials F L → ArePolynomials F M
+    → SameIdeal F L M → IsReducedBasis F key L G → IsReducedBasis F key M H → G ≡ H
+
+-- Buchberger's criterion: where each pair of a monic list is settled, the lead of each nonzero member of its ideal is
+-- divided by the lead of one of the list.
+abbrev pub SettledPairsCover : Type 0
+SettledPairsCover =
+    (F : Field) → IsField F → (key : List ℕ → List ℕ) → IsMonomialOrder key → (G : List Sugared) → ArePolynomials F (polynomials_of G)
+    → All (λ g. lead_coefficient key g ≡ 1) (polynomials_of G) → AllSettled F key G
+    → (h : Polynomial) → Member F (polynomials_of G) h → h ≢ empty → LeadDivides key (polynomials_of G) (lead_exponents key h)
+
+-- A run that is finished gives the reduced basis.
+abbrev pub FinishedIsReduced : Type 0
+FinishedIsReduced =
+    (F : Field) → IsField F → (key : List ℕ → List ℕ) → IsMonomialOrder key → (L : List Polynomial) → ArePolynomials F L → (budget : ℕ) (basis : List Sugared)
+    → IsFinished F key L budget basis → IsReducedBasis F key L (polynomials_of basis)
+
+-- A run has one outcome: it is finished with one basis, or Unfinished, or TooHigh.
+pub record OneOutcome (F : Field) (key : List ℕ → List ℕ) (L : List Polynomial) (budget : ℕ) : Type 0 where
+  pub unfinished_too_high : Unfinished F key L budget → TooHigh F key L budget → ⊥
+  pub finished_unfinished : (basis : List Sugared) → IsFinished F key L budget basis → Unfinished F key L budget → ⊥
+  pub finished_too_high : (basis : List Sugared) → IsFinished F key L budget basis → TooHigh F key L budget → ⊥
+
+abbrev pub RunsHaveOneOutcome : Type 0
+RunsHaveOneOutcome = (F : Field) (key : List ℕ → List ℕ) (L : List Polynomial) (budget : ℕ) → OneOutcome F key L budget
+
+-- The members without the eighth variable of the reduced basis, for the order that eliminates it, of the list t I, (1 - t) J
+-- are the reduced Grevlex basis of the meet of (I) and (J).
+abbrev pub EliminationGivesMeet : Type 0
+EliminationGivesMeet =
+    (F : Field) → IsField F → (I J G N : List Polynomial) → ArePolynomials F I → ArePolynomials F J → All (UsesFirst 7) I → All (UsesFirst 7) J
+    → IsReducedBasis F elim_key (elimination_list F I J) G → IsMeet F I J N → IsReducedBasis F grevlex_key N (without_eighth G)

@@ -1,5 +1,0 @@
-use Rattle.fj_theory.proofs.Finishing.{IsFinished-IsReducedBasis}
-use Rattle.fj_theory.proofs.bases.finished_is_reduced.Goals as goal
-
-pub returns : goal.returns
-returns c F L key K M A budget basis f = IsFinished-IsReducedBasis K L A f

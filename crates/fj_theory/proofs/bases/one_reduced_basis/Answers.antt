@@ -1,5 +1,0 @@
-use Rattle.fj_theory.proofs.ReducedBasis.{IsReducedBasis-unique}
-use Rattle.fj_theory.proofs.bases.one_reduced_basis.Goals as goal
-
-pub returns : goal.returns
-returns c F L key K M N G H A B E S T = IsReducedBasis-unique K L A B E S T
