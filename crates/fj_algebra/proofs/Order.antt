@@ -3,7 +3,7 @@ use Rattle.std.proofs.Common.{◌≡◌, ℕ, zero, suc, ◌+◌, ◌<◌, List,
 use Rattle.std.specs.Cmp.Lexicographic.{slice_cmp}
 use Rattle.std.proofs.lemmas.Cmp.{nat_list_cmp_total, nat_cmp_total, ranked, tied_itself}
 use Rattle.std.specs.Ordering.{ordering_then, MatchOrdering, ordering_reverse}
-use Rattle.fj_algebra.specs.Order.{Monomials, Divides, IsAtMost, add_entries, MonomialOrder, compare, IsBelow}
+use Rattle.fj_algebra.specs.Order.{Monomials, Divides, IsAtMost, MonomialOrder, compare, IsBelow}
 
 -- the three answers of a comparison of numbers
 by_number {ℓ} : (P : Ordering → Type ℓ) (x y : ℕ) → (x < y → P Less) → (x ≡ y → P Equal) → (y < x → P Greater) → P (nat_cmp x y)
@@ -23,11 +23,6 @@ same_number = tied_itself nat_cmp_total
 greater_number : (x y : ℕ) → y < x → nat_cmp x y ≡ Greater
 greater_number x y h = by_number (λ r. r ≡ Greater) x y (λ l. absurd (omega arith)) (λ e. absurd (omega arith)) (λ _. refl)
 
-number_add : (z x y : ℕ) → nat_cmp (z + x) (z + y) ≡ nat_cmp x y
-number_add z x y =
-    by_number (λ r. nat_cmp (z + x) (z + y) ≡ r) x y (λ h. less_number (z + x) (z + y) (omega arith)) (λ h. rw h (same_number (z + y)))
-    (λ h. greater_number (z + x) (z + y) (omega arith))
-
 -- lists that compare equal are one
 equal_lists : (xs ys : List ℕ) → slice_cmp nat_cmp xs ys ≡ Equal → xs ≡ ys
 equal_lists [] [] e = refl
@@ -36,16 +31,6 @@ equal_lists (x ∷ xs) [] e = cc
 equal_lists (x ∷ xs) (y ∷ ys) e =
     by_number (λ r. ordering_then r (slice_cmp nat_cmp xs ys) ≡ Equal → x ∷ xs ≡ y ∷ ys) x y (λ h e. cc) (λ h e. let t = equal_lists xs ys e in cc)
     (λ h e. cc) e
-
-add_keeps : (zs xs ys : List ℕ) → length xs ≡ length zs → length ys ≡ length zs →
-    slice_cmp nat_cmp (add_entries zs xs) (add_entries zs ys) ≡ slice_cmp nat_cmp xs ys
-unfolding add_entries
-add_keeps [] [] [] e d = refl
-add_keeps [] [] (y ∷ ys) e d = absurd (omega arith)
-add_keeps [] (x ∷ xs) ys e d = absurd (omega arith)
-add_keeps (z ∷ zs) [] ys e d = absurd (omega arith)
-add_keeps (z ∷ zs) (x ∷ xs) [] e d = absurd (omega arith)
-add_keeps (z ∷ zs) (x ∷ xs) (y ∷ ys) e d = let first = number_add z x y in let rest = add_keeps zs xs ys (omega arith) (omega arith) in cc
 
 -- strong induction along the lexicographic order of the lists of one length
 pub below_all {ℓ} : (P : ℕ → Type ℓ) → ((n : ℕ) → ((k : ℕ) → k < n → P k) → P n) → (n k : ℕ) → k < n → P k
@@ -122,12 +107,7 @@ module _ {M : Type 0} {monomials : Monomials M} (order : MonomialOrder monomials
 
   -- Multiplication keeps the order.
   pub below_times : (c : M) {a b : M} → IsBelow order a b → IsBelow order (times c a) (times c b)
-  below_times c {a} {b} h =
-      record {
-        is_less = rw (order.key_times c a, order.key_times c b)
-            (add_keeps (order.key c) (order.key a) (order.key b) (order.key_length a ∙ sym (order.key_length c))
-            (order.key_length b ∙ sym (order.key_length c)) ∙ h.is_less);
-      }
+  below_times c {a} {b} h = record { is_less = order.kept c a b ∙ h.is_less }
 
   -- Multiplication can be cancelled.
   pub times_cancel : (c a b : M) → times c a ≡ times c b → a ≡ b

@@ -1,5 +1,5 @@
 -- Monomials, and orders of them by keys.
-use Rattle.std.specs.Prelude.{◌≡◌, ◌⊎◌, ℕ, ◌+◌, List, [], ◌∷◌, length}
+use Rattle.std.specs.Prelude.{◌≡◌, ◌⊎◌, ℕ, List, length}
 use Rattle.std.specs.Ordering.{nat_cmp}
 use Rattle.std.specs.Cmp.Lexicographic.{slice_cmp}
 use Rattle.std.specs.declared.cmp.Ordering.{Ordering}
@@ -26,20 +26,14 @@ pub record IsLeastCommonMultiple {M : Type 0} (monomials : Monomials M) (a b c :
   pub right : Divides monomials b c
   pub least : (d : M) → Divides monomials a d → Divides monomials b d → Divides monomials c d
 
--- the sums entry by entry
-unfoldable pub add_entries : List ℕ → List ℕ → List ℕ
-add_entries [] ys = []
-add_entries (x ∷ xs) [] = []
-add_entries (x ∷ xs) (y ∷ ys) = (x + y) ∷ add_entries xs ys
-
 -- A monomial order (Cox, Little, O'Shea 2015, chapter 2) by keys: the lexicographic order of lists of naturals of one
--- length that tell the monomials apart and add up where monomials are multiplied.
+-- length that tell the monomials apart, where it stays the same when both sides are multiplied by a monomial.
 pub record MonomialOrder {M : Type 0} (monomials : Monomials M) : Type 0 where
   pub entries : ℕ
   pub key : M → List ℕ
   pub key_length : (a : M) → length (key a) ≡ entries
   pub key_injective : (a b : M) → key a ≡ key b → a ≡ b
-  pub key_times : (a b : M) → key (monomials.times a b) ≡ add_entries (key a) (key b)
+  pub kept : (c a b : M) → slice_cmp nat_cmp (key (monomials.times c a)) (key (monomials.times c b)) ≡ slice_cmp nat_cmp (key a) (key b)
 
 -- how the order compares two monomials
 abbrev pub compare : {M : Type 0} {monomials : Monomials M} → MonomialOrder monomials → M → M → Ordering

@@ -5,8 +5,9 @@ use crate::mono::Mono;
 use std::cmp::Ordering;
 
 /// A monomial order (Cox, Little and O'Shea 2015, chapter 2), given by a key: nine naturals for each exponent list, whose
-/// lexicographic order it is. The laws hold for exponent lists of any size: no two have one key, the key of a product is
-/// the sum of the keys, and no entry of a key is above the total degree.
+/// lexicographic order it is. The laws hold for exponents of any size: no two exponent lists have one key, two compare as
+/// before when the same list is added to both, and no entry of a key is above the total degree. So the order is total and
+/// kept by products, and 1 is the least monomial.
 pub trait Order {
     ghost key: { List ℕ → List ℕ };
 

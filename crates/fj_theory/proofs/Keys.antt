@@ -1,9 +1,11 @@
 -- The keys of Lex, Grlex, Grevlex and the elimination order are monomial orders.
-use Rattle.std.proofs.Common.{◌≡◌, ℕ, zero, suc, ◌+◌, ◌≤◌, List, [], ◌∷◌, ◌++◌, length, take, slice_index, All, refl, sym, ap, ◌∙◌, arith, length-append, add_left_cancel, ⊎_elim, eq-or-lt_of_le, subst, take_all}
+use Rattle.std.proofs.Common.{◌≡◌, ℕ, zero, suc, ◌+◌, ◌≤◌, List, [], ◌∷◌, ◌++◌, length, take, slice_index, All, nat_cmp, refl, sym, ap, ap₂, ◌∙◌, arith, length-append, add_left_cancel, ⊎_elim, eq-or-lt_of_le, subst, take_all}
 use Rattle.std.proofs.lemmas.List.{append_cancel_right}
 use Rattle.std.proofs.lemmas.List.Elements.{All-nil, All-cons, All-append, All-weaker}
-use Rattle.fj_theory.specs.Exponents.{total, plus}
-use Rattle.fj_theory.specs.MonomialOrder.{IsMonomialOrder, lex_key, grevlex_key, grlex_key, elim_key, front_sums}
+use Rattle.std.specs.Cmp.Lexicographic.{slice_cmp}
+use Rattle.fj_theory.specs.Exponents.{IsExponents, total, plus}
+use Rattle.fj_theory.specs.MonomialOrder.{compare_by, IsMonomialOrder, lex_key, grevlex_key, grlex_key, elim_key, front_sums}
+use Rattle.fj_theory.proofs.MonomialOrder.{slice_cmp-plus}
 use Rattle.fj_theory.proofs.Exponents.{cons_same, heads_same, tails_same, total-cons, total-plus}
 
 -- The key of Lex has the exponents and a zero.
@@ -78,6 +80,14 @@ lists_from_sums (suc n) (x ∷ a) (y ∷ b) s e =
     let first : x ≡ y = omega (arith, s 1 (omega arith)) in
     cons_same first (lists_from_sums n a b (λ k h. add_left_cancel x (sym (total-cons x (take k a)) ∙ s (suc k) (omega arith) ∙ total-cons y (take k b) ∙ ap (λ z. z + total (take k b)) (sym first))) (omega arith))
 
+-- Where the key of a product is the sum of the keys, products keep the order.
+kept_from_sums : (key : List ℕ → List ℕ) → ((a : List ℕ) → IsExponents a → length (key a) ≡ 9)
+    → ((a b : List ℕ) → IsExponents a → IsExponents b → key (plus a b) ≡ plus (key a) (key b))
+    → (a b c : List ℕ) → IsExponents a → IsExponents b → IsExponents c → compare_by key (plus a c) (plus b c) ≡ compare_by key a b
+kept_from_sums key nine sums a b c A B C =
+    ap₂ (slice_cmp nat_cmp) (sums a c A C) (sums b c B C)
+    ∙ slice_cmp-plus (key a) (key b) (key c) (nine a A ∙ sym (nine c C)) (nine b B ∙ sym (nine c C))
+
 -- Lex, Grlex, Grevlex and the elimination order.
 pub lex_key-IsMonomialOrder : IsMonomialOrder lex_key
 unfolding lex_key
@@ -85,7 +95,7 @@ lex_key-IsMonomialOrder = record {
   nine = λ a A. length_zero_after a ∙ ap suc A.eight;
   bounded = λ a A. All_zero_after (total a) a (entries_bounded a);
   injective = λ a b A B e. append_cancel_right a b (0 ∷ []) e;
-  additive = λ a b A B. plus_zero_after a b (A.eight ∙ sym B.eight);
+  kept = kept_from_sums lex_key (λ a A. length_zero_after a ∙ ap suc A.eight) (λ a b A B. plus_zero_after a b (A.eight ∙ sym B.eight));
 }
 
 pub grlex_key-IsMonomialOrder : IsMonomialOrder grlex_key
@@ -94,7 +104,7 @@ grlex_key-IsMonomialOrder = record {
   nine = λ a A. ap suc A.eight;
   bounded = λ a A. All-cons (λ k. k ≤ total a) (total a) a (omega arith) (entries_bounded a);
   injective = λ a b A B e. tails_same e;
-  additive = λ a b A B. cons_same (total-plus a b (A.eight ∙ sym B.eight)) refl;
+  kept = kept_from_sums grlex_key (λ a A. ap suc A.eight) (λ a b A B. cons_same (total-plus a b (A.eight ∙ sym B.eight)) refl);
 }
 
 length_front_sums_zero : (n : ℕ) (a : List ℕ) → length (front_sums n a ++ 0 ∷ []) ≡ suc n
@@ -119,7 +129,7 @@ grevlex_key-IsMonomialOrder = record {
   bounded = λ a A. front_sums_zero_bounded 8 a;
   injective = λ a b A B e. sym (take_all 8 a (omega (arith, A.eight))) ∙ front_sums_zero_take 8 a b (A.eight ∙ sym B.eight) e
       ∙ take_all 8 b (omega (arith, B.eight));
-  additive = λ a b A B. front_sums_zero-plus 8 a b (A.eight ∙ sym B.eight);
+  kept = kept_from_sums grevlex_key (λ a A. length_front_sums_zero 8 a) (λ a b A B. front_sums_zero-plus 8 a b (A.eight ∙ sym B.eight));
 }
 
 -- The exponent of a product at a place.
@@ -150,7 +160,7 @@ elim_key-IsMonomialOrder = record {
   nine = λ a A. ap suc (length_front_sums_zero 7 a);
   bounded = λ a A. All-cons (λ k. k ≤ total a) (slice_index a 7) (front_sums 7 a ++ 0 ∷ []) (index_bounded a 7) (front_sums_zero_bounded 7 a);
   injective = λ a b A B e. take_one_more 7 a b A.eight B.eight (front_sums_zero_take 7 a b (A.eight ∙ sym B.eight) (tails_same e)) (heads_same e);
-  additive = λ a b A B. cons_same (index-plus a b 7 (A.eight ∙ sym B.eight)) (front_sums_zero-plus 7 a b (A.eight ∙ sym B.eight));
+  kept = kept_from_sums elim_key (λ a A. ap suc (length_front_sums_zero 7 a)) (λ a b A B. cons_same (index-plus a b 7 (A.eight ∙ sym B.eight)) (front_sums_zero-plus 7 a b (A.eight ∙ sym B.eight)));
 }
 
 -- An order that eliminates the variable x_i: its exponent decides, and then Lex.
@@ -163,5 +173,5 @@ first_key-IsMonomialOrder i = record {
   nine = λ a A. ap suc A.eight;
   bounded = λ a A. All-cons (λ k. k ≤ total a) (slice_index a i) a (index_bounded a i) (entries_bounded a);
   injective = λ a b A B e. tails_same e;
-  additive = λ a b A B. cons_same (index-plus a b i (A.eight ∙ sym B.eight)) refl;
+  kept = kept_from_sums (first_key i) (λ a A. ap suc A.eight) (λ a b A B. cons_same (index-plus a b i (A.eight ∙ sym B.eight)) refl);
 }

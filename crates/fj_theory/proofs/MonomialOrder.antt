@@ -2,7 +2,7 @@
 use Rattle.std.proofs.Common.{◌≡◌, ◌⊎◌, ⊎_elim, ℕ, zero, suc, ◌+◌, ◌<◌, ◌≤◌, false, List, [], ◌∷◌, length, replicate, All, nat_cmp, is_gt, Ordering, Less, Equal, refl, sym, ap, ap₂, ◌∙◌, subst, arith, Greater, ◌*◌, zero-mul}
 use Rattle.std.specs.Cmp.{IsTotalOrder}
 use Rattle.std.specs.Cmp.Lexicographic.{slice_cmp}
-use Rattle.std.specs.Ordering.{ordering_then}
+use Rattle.std.specs.Ordering.{ordering_then, ordering_reverse}
 use Rattle.std.proofs.lemmas.Bool.{cases_order}
 use Rattle.std.proofs.lemmas.Bool.Decides.{nat_tests}
 use Rattle.std.proofs.lemmas.Cmp.{nat_list_cmp_total, on_total, tied_itself, nat_cmp_total}
@@ -10,7 +10,7 @@ use Rattle.std.proofs.lemmas.Map.Lookups.{exact_bytes}
 use Rattle.std.proofs.lemmas.List.Elements.{All-head, All-tail}
 use Rattle.fj_theory.specs.Exponents.{IsExponents, origin, plus, times}
 use Rattle.fj_theory.specs.MonomialOrder.{compare_by, IsMonomialOrder}
-use Rattle.fj_theory.proofs.Exponents.{IsExponents-origin, plus_comm, total_origin, times_zero, cons_same, times_suc, IsExponents-times}
+use Rattle.fj_theory.proofs.Exponents.{IsExponents-origin, plus_comm, total_origin, times_zero, plus_origin, times_suc, IsExponents-times}
 
 -- The order of a key is a total order.
 pub compare_by_total : (key : List ℕ → List ℕ) → IsTotalOrder (compare_by key)
@@ -46,6 +46,9 @@ zeros_from_bound (suc n) (u ∷ x) e all =
     let h = All-head (λ k. k ≤ 0) u x all in
     let z : u ≡ 0 = omega arith in
     ap₂ (λ (k : ℕ) (y : List ℕ). k ∷ y) z (zeros_from_bound n x (omega arith) (All-tail (λ k. k ≤ 0) u x all))
+
+times_one : {a : List ℕ} → IsExponents a → times 1 a ≡ a
+times_one {a} A = times_suc 0 a ∙ ap (plus a) (times_zero A) ∙ plus_origin A
 
 -- Lexicographic induction over the lists of n numbers.
 below_all : (Q : ℕ → Type 0) → ((x : ℕ) → ((y : ℕ) → y < x → Q y) → Q x) → (x y : ℕ) → y < x → Q y
@@ -86,9 +89,7 @@ module _ {key : List ℕ → List ℕ} (O : IsMonomialOrder key) where
 
   -- A product on both sides keeps the order.
   pub compare_by-plus : {a b c : List ℕ} → IsExponents a → IsExponents b → IsExponents c → compare_by key (plus a c) (plus b c) ≡ compare_by key a b
-  compare_by-plus {a} {b} {c} A B C =
-      ap₂ (slice_cmp nat_cmp) (O.additive a c A C) (O.additive b c B C)
-      ∙ slice_cmp-plus (key a) (key b) (key c) (O.nine a A ∙ sym (O.nine c C)) (O.nine b B ∙ sym (O.nine c C))
+  compare_by-plus {a} {b} {c} A B C = O.kept a b c A B C
 
   pub compare_by-plus_left : {a b c : List ℕ} → IsExponents a → IsExponents b → IsExponents c
       → compare_by key (plus c a) (plus c b) ≡ compare_by key a b
@@ -109,41 +110,29 @@ module _ {key : List ℕ → List ℕ} (O : IsMonomialOrder key) where
       (λ k e lower b B f. step b B (λ c C l. lower (key c) (O.nine c C) (subst (λ j. slice_cmp nat_cmp (key c) j ≡ Less) f l) c C refl))
       (key a) (O.nine a A) a A refl
 
-nat_cmp_less : (x y : ℕ) → x < y → nat_cmp x y ≡ Less
-nat_cmp_less x y h = grind (arith, nat_tests)
-
-nat_cmp_greater : (x y : ℕ) → y < x → nat_cmp x y ≡ Greater
-nat_cmp_greater x y h = grind (arith, nat_tests)
-
-times_less : (n x y : ℕ) → 0 < n → x < y → n * x < n * y
-times_less n x y h l = grind arith
-
-nat_cmp-times : (n x y : ℕ) → 0 < n → nat_cmp (n * x) (n * y) ≡ nat_cmp x y
-nat_cmp-times n x y h =
-    ⊎_elim (λ e. ap (λ z. nat_cmp (n * x) (n * z)) (sym e) ∙ tied_itself nat_cmp_total (n * x) ∙ sym (ap (nat_cmp x) (sym e) ∙ tied_itself nat_cmp_total x))
-    (⊎_elim (λ l. nat_cmp_less _ _ (times_less n x y h l) ∙ sym (nat_cmp_less x y l)) (λ l. nat_cmp_greater _ _ (times_less n y x h l) ∙ sym (nat_cmp_greater x y l))) (cases_order x y)
-
-pub slice_cmp-times : (n : ℕ) (x y : List ℕ) → 0 < n → slice_cmp nat_cmp (times n x) (times n y) ≡ slice_cmp nat_cmp x y
-unfolding times
-slice_cmp-times n [] [] h = refl
-slice_cmp-times n [] (v ∷ y) h = refl
-slice_cmp-times n (u ∷ x) [] h = refl
-slice_cmp-times n (u ∷ x) (v ∷ y) h = ap₂ ordering_then (nat_cmp-times n u v h) (slice_cmp-times n x y h)
-
-times_nothing : (x : List ℕ) (n : ℕ) → length x ≡ n → times 0 x ≡ replicate n 0
-unfolding times
-times_nothing [] zero e = refl
-times_nothing [] (suc n) e = absurd (omega arith)
-times_nothing (u ∷ x) zero e = absurd (omega arith)
-times_nothing (u ∷ x) (suc n) e = cons_same (zero-mul u) (times_nothing x n (omega arith))
-
 module _ {key : List ℕ → List ℕ} (O : IsMonomialOrder key) where
-  -- The key of a power is the multiple of the key.
-  pub key-times : (n : ℕ) {a : List ℕ} → IsExponents a → key (times n a) ≡ times n (key a)
-  key-times zero {a} A = ap key (times_zero A) ∙ key_origin O ∙ sym (times_nothing (key a) 9 (O.nine a A))
-  key-times (suc n) {a} A = ap key (times_suc n a) ∙ O.additive a (times n a) A (IsExponents-times n A) ∙ ap (plus (key a)) (key-times n A)
-      ∙ sym (times_suc n (key a))
+  total_order : IsTotalOrder (compare_by key)
+  total_order = compare_by_total key
+
+  -- What is less stays so in each power.
+  less-times : (n : ℕ) {a b : List ℕ} → IsExponents a → IsExponents b → compare_by key a b ≡ Less → compare_by key (times (suc n) a) (times (suc n) b) ≡ Less
+  less-times zero {a} {b} A B l = ap₂ (compare_by key) (times_one A) (times_one B) ∙ l
+  less-times (suc n) {a} {b} A B l =
+      let x : List ℕ = times (suc n) a in
+      let y : List ℕ = times (suc n) b in
+      let X = IsExponents-times (suc n) A in
+      let Y = IsExponents-times (suc n) B in
+      ap₂ (compare_by key) (times_suc (suc n) a) (times_suc (suc n) b)
+      ∙ total_order.trans (plus a x) (plus b x) (plus b y) (compare_by-plus O A B X ∙ l) (compare_by-plus_left O X Y B ∙ less-times n A B l)
 
   -- A power on both sides keeps the order.
   pub compare_by-times : (n : ℕ) {a b : List ℕ} → 0 < n → IsExponents a → IsExponents b → compare_by key (times n a) (times n b) ≡ compare_by key a b
-  compare_by-times n {a} {b} h A B = ap₂ (slice_cmp nat_cmp) (key-times n A) (key-times n B) ∙ slice_cmp-times n (key a) (key b) h
+  compare_by-times zero h A B = absurd (omega arith)
+  compare_by-times (suc n) {a} {b} h A B = go (compare_by key a b) refl
+    where
+      go : (r : Ordering) → compare_by key a b ≡ r → compare_by key (times (suc n) a) (times (suc n) b) ≡ r
+      go Less e = less-times n A B e
+      go Equal e = ap (λ c. compare_by key (times (suc n) a) (times (suc n) c)) (sym (compare_by_exact O A B e)) ∙ tied_itself total_order (times (suc n) a)
+      go Greater e =
+          total_order.antisymm (times (suc n) a) (times (suc n) b)
+          ∙ ap ordering_reverse (less-times n B A (total_order.antisymm b a ∙ ap ordering_reverse e))

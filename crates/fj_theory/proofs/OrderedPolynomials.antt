@@ -3,7 +3,6 @@ use Rattle.std.proofs.Common.{◌+◌, inl, inr, ◌≡◌, ◌≢◌, ℕ, zero
 use Rattle.std.proofs.lemmas.List.Elements.{All-head, All-tail}
 use Rattle.fj_coeff.specs.Field.{Field, IsField}
 use Rattle.fj_algebra.specs.Order as order
-use Rattle.fj_algebra.specs.Order.{add_entries}
 use Rattle.fj_algebra.specs.Polynomial as abstract
 use Rattle.std.proofs.lemmas.Map.Made.{is_member-Decides}
 use Rattle.fj_algebra.proofs.Pairs.{contains_cons, contains_head, contains_tail, contains_nil}
@@ -11,6 +10,7 @@ use Rattle.fj_theory.specs.Exponents.{IsExponents, origin, plus, minus, divides}
 use Rattle.fj_theory.specs.MonomialOrder.{IsMonomialOrder}
 use Rattle.fj_theory.specs.Polynomial.{coefficient, support, term}
 use Rattle.fj_theory.proofs.Exponents.{plus_comm, plus_assoc, plus_origin, IsExponents-origin, IsExponents-plus, IsExponents-minus, plus-minus, divides-plus}
+use Rattle.fj_theory.proofs.MonomialOrder.{compare_by-plus_left}
 use Rattle.fj_theory.proofs.Field.{Element, element_equal, field_ring, zero_below, rank_zero, rank_one, rank_add, rank_mul}
 use Rattle.fj_theory.proofs.FormalSum.{same, same_true, same-Decides}
 use Rattle.fj_theory.proofs.Polynomial.{polynomial_equal, support_exponents, support_listed, coefficient_below, coefficient-sum, coefficient-term, coefficient-term_same, get-coefficient, IsPolynomial-term}
@@ -47,12 +47,6 @@ quotient a b = go (divides a.list b.list) refl
         )
     go false e = no (λ c. true≢false (sym (subst (λ l. divides a.list l ≡ true) (ap (λ x. x.list) c.1) (divides-plus a.is_exponents c.0.is_exponents)) ∙ e))
 
-pub added : (xs ys : List ℕ) → plus xs ys ≡ add_entries xs ys
-unfolding plus add_entries
-added [] ys = refl
-added (x ∷ xs) [] = refl
-added (x ∷ xs) (y ∷ ys) = ap (λ l. (x + y) ∷ l) (added xs ys)
-
 -- The monomials in eight variables.
 unfoldable pub monomials : order.Monomials Exponents
 unfolding times
@@ -73,7 +67,7 @@ monomial_order {key} K = record {
   key = λ a. key a.list;
   key_length = λ a. K.nine a.list a.is_exponents;
   key_injective = λ a b e. exponents_equal a b (K.injective a.list b.list a.is_exponents b.is_exponents e);
-  key_times = λ a b. K.additive a.list b.list a.is_exponents b.is_exponents ∙ added (key a.list) (key b.list);
+  kept = λ c a b. compare_by-plus_left K a.is_exponents b.is_exponents c.is_exponents;
 }
 
 module _ {F : Field} (L : IsField F) where

@@ -32,13 +32,13 @@ grlex_key a = sum a ∷ a
 unfoldable pub elim_key : List ℕ → List ℕ
 elim_key a = slice_index a 7 ∷ front_sums 7 a ++ 0 ∷ []
 
--- What makes a key a monomial order: nine entries, none above the total; no two exponent lists have one key; the key
--- of a product is the sum of the keys.
+-- What makes a key a monomial order: nine entries, none above the total; no two exponent lists have one key; two exponent
+-- lists compare as before after the same list is added to both. That the zero list is the least follows.
 pub record IsMonomialOrder (key : List ℕ → List ℕ) : Type 0 where
   pub nine : (a : List ℕ) → IsExponents a → length (key a) ≡ 9
   pub bounded : (a : List ℕ) → IsExponents a → All (λ k. k ≤ total a) (key a)
   pub injective : (a b : List ℕ) → IsExponents a → IsExponents b → key a ≡ key b → a ≡ b
-  pub additive : (a b : List ℕ) → IsExponents a → IsExponents b → key (plus a b) ≡ plus (key a) (key b)
+  pub kept : (a b c : List ℕ) → IsExponents a → IsExponents b → IsExponents c → compare_by key (plus a c) (plus b c) ≡ compare_by key a b
 
 -- Each list is less than the next one.
 abbrev pub IsRising : (List ℕ → List ℕ) → List (List ℕ) → Type 0
