@@ -136,15 +136,15 @@ module _ {F : Field} (L : IsField F) where
             nonzero = λ z. V.nonzero (ap (λ f. element L (value F f point)) (value_at_one agree) ∙ ap (element L) z ∙ element_zero L);
           }
 
-  module _ {I C M : List Polynomial} (P : ArePolynomials F I) (colon : IsColon F (frobenius_power F F.characteristic I) I C) (root : IsRoot F F.characteristic C M) where
+  module _ {I C M : List Polynomial} (P : ArePolynomials F I) (colon : IsColon F (frobenius_power F (F.characteristic ^ 1) I) I C) (root : IsRoot F (F.characteristic ^ 1) C M) where
     -- The quotient and its root are those of the ring.
     quotient_over : ring_colon.Colon (polynomial_ring L) (ring_frobenius.frobenius_power (polynomial_ring L) (F.characteristic ^ 1) (in_ring P).list) (in_ring P).list (in_ring colon.polynomials).list
     quotient_over =
         let X = in_ring P in
-        Colon_over L (InRing-frobenius_power L (F.characteristic ^ 1) X) X (in_ring colon.polynomials) (subst (λ q. IsColon F (frobenius_power F q I) I C) (sym (power_one F.characteristic)) colon)
+        Colon_over L (InRing-frobenius_power L (F.characteristic ^ 1) X) X (in_ring colon.polynomials) colon
 
     root_over : ring_root.Root (polynomial_ring L) (F.characteristic ^ 1) (in_ring colon.polynomials).list (in_ring root.polynomials).list
-    root_over = Root_over L (in_ring colon.polynomials) (in_ring root.polynomials) (subst (λ q. IsRoot F q C M) (sym (power_one F.characteristic)) root)
+    root_over = Root_over L (in_ring colon.polynomials) (in_ring root.polynomials) root
 
     -- Fedder's criterion.
     pub IsFPure-exactly : IsFPure F I ↔ Member F M (term 1 origin)

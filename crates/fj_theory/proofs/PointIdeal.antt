@@ -24,7 +24,7 @@ use Rattle.fj_theory.proofs.Polynomial.{coefficient_below, coefficient-sum, coef
 use Rattle.fj_theory.proofs.FormalSum.{same, same_itself, same_false}
 use Rattle.fj_theory.proofs.Monomial.{product_terms, sum_terms, term_zero, polynomial_induction}
 use Rattle.fj_theory.proofs.Variables.{zeros_plus, IsExponents-variable}
-use Rattle.fj_theory.proofs.Evaluation.{value_below, value-empty, value-sum, value-term, value-negation, Member-IsZeroOf, monomial_value-zeros, monomial_value-origin, monomial_value-plus, monomial_value_below}
+use Rattle.fj_theory.proofs.Evaluation.{value_below, value-empty, value-one, value-sum, value-term, value-negation, Member-IsZeroOf, monomial_value-zeros, monomial_value-origin, monomial_value-plus, monomial_value_below}
 
 -- Either all exponents are zero, or one is not.
 find_positive : (a : List ℕ) → (total a ≡ 0) ⊎ ((i : ℕ) × (i < length a) × (0 < get_or a i 0))
@@ -267,3 +267,10 @@ module _ {F : Field} (L : IsField F) where
         λ z. subst (Member F (point_ideal F n point))
             (ap (λ c. difference F f (constant c)) z ∙ ap (difference F f) (term_zero L IsExponents-origin) ∙ difference_empty P) (Member-less_value P first),
       )
+
+      -- The ideal of a point is proper.
+      pub point_ideal-IsProper : Member F (point_ideal F n point) (term 1 origin) → ⊥
+      point_ideal-IsProper H =
+          let zero = Member-IsZeroOf L at (ArePolynomials-point_ideal at n) IsZeroOf-point_ideal H in
+          let one = value-one L at in
+          absurd (omega (arith, zero, one))

@@ -13,6 +13,7 @@ pub mod Colon
 pub mod Evaluation
 pub mod RootLaws
 pub mod PointIdeal
+pub mod PointLaws
 pub mod Lead
 pub mod Steps
 pub mod PolynomialLaws

@@ -38,14 +38,14 @@ TracesGenerate =
 -- Fedder's criterion: S/(I) is F-pure exactly where the root at 1 of I^[p] : I is the whole ring.
 abbrev pub FedderCriterion : Type 0
 FedderCriterion =
-    (F : Field) → IsField F → (I C M : List Polynomial) → ArePolynomials F I → IsColon F (frobenius_power F F.characteristic I) I C
-    → IsRoot F F.characteristic C M → IsFPure F I ↔ Member F M (term 1 origin)
+    (F : Field) → IsField F → (I C M : List Polynomial) → ArePolynomials F I → IsColon F (frobenius_power F (F.characteristic ^ 1) I) I C
+    → IsRoot F (F.characteristic ^ 1) C M → IsFPure F I ↔ Member F M (term 1 origin)
 
 -- The criterion at a point: S/(I) is F-pure there exactly where some polynomial of that root isn't zero there.
 abbrev pub FedderCriterionAt : Type 0
 FedderCriterionAt =
-    (F : Field) → IsField F → (I C M : List Polynomial) → ArePolynomials F I → IsColon F (frobenius_power F F.characteristic I) I C
-    → IsRoot F F.characteristic C M → (point : List ℕ) → IsPoint F point → IsFPureAt F I point ↔ Any (λ r. value F r point ≢ 0) M
+    (F : Field) → IsField F → (I C M : List Polynomial) → ArePolynomials F I → IsColon F (frobenius_power F (F.characteristic ^ 1) I) I C
+    → IsRoot F (F.characteristic ^ 1) C M → (point : List ℕ) → IsPoint F point → IsFPureAt F I point ↔ Any (λ r. value F r point ≢ 0) M
 
 -- J is compatible with u at e exactly where the root at e of u J is inside (J).
 abbrev pub CompatibleByRoot : Type 0

@@ -5,6 +5,7 @@
 #![tactic(auto)]
 
 pub mod laws;
+pub mod points;
 pub mod polynomials;
 pub mod splittings;
 #[cfg(test)]
