@@ -1,6 +1,7 @@
 -- Laws of meets and quotients of ideals of polynomials.
-use Rattle.std.proofs.Common.{◌≡◌, ◌↔◌, List, [], ◌∷◌, ◌++◌, sym, ap, ◌∙◌, subst}
-use Rattle.std.proofs.lemmas.List.Elements.{All-append, All-map, All-weaker}
+use Rattle.std.proofs.Common.{◌≡◌, ◌↔◌, List, [], ◌∷◌, ◌++◌, All, sym, ap, ◌∙◌, subst}
+use Rattle.std.proofs.lemmas.List.Elements.{All-nil, All-append, All-map, All-weaker}
+use Rattle.std.specs.FinMap.{empty}
 use Rattle.fj_coeff.specs.Field.{Field, IsField}
 use Rattle.fj_algebra.specs.Colon as ring_colon
 use Rattle.fj_algebra.proofs.Lists.{All-map_back, All-append_left, All-append_right}
@@ -9,9 +10,9 @@ use Rattle.fj_theory.specs.Exponents.{origin}
 use Rattle.fj_theory.specs.Polynomial.{Polynomial, IsPolynomial, product, term}
 use Rattle.fj_theory.specs.Ideal.{ArePolynomials, Member, Inside, SameIdeal, multiples}
 use Rattle.fj_theory.specs.Colon.{IsMeet, InColon, IsColon}
-use Rattle.fj_theory.proofs.PolynomialRing.{PolynomialOver, over_equal, polynomial_ring, map_one, map_mul}
+use Rattle.fj_theory.proofs.PolynomialRing.{PolynomialOver, over_equal, polynomial_ring, map_one, map_mul, product_empty}
 use Rattle.fj_theory.proofs.IdealBridge.{over, in_ring, InRing, InRing-nil, InRing-cons, InRing-multiples, Member_map, Member_over, Inside_map, Inside_over, SameIdeal_over, ArePolynomials-InRing, Member_polynomial}
-use Rattle.fj_theory.proofs.Ideal.{Inside-from, Member-elements, Member-Inside}
+use Rattle.fj_theory.proofs.Ideal.{Inside-from, Member-elements, Member-empty, Member-Inside}
 
 module _ {F : Field} {M N : List Polynomial} {h : Polynomial} where
   -- h is in (M) : (N) exactly where the ideal h (N) is inside (M).
@@ -88,13 +89,20 @@ module _ {F : Field} (L : IsField F) where
         );
       }
 
-  module _ {M N : List Polynomial} (P : ArePolynomials F M) (Q : ArePolynomials F N) where
+  module _ {M N : List Polynomial} where
     pub IsMeet-unique : {K K' : List Polynomial} → IsMeet F M N K → IsMeet F M N K' → SameIdeal F K K'
     IsMeet-unique S T = record {
       forth = Inside-from L S.polynomials (λ h H G. (T.members h H).1 ((S.members h H).0 G));
       back = Inside-from L T.polynomials (λ h H G. (S.members h H).1 ((T.members h H).0 G));
     }
 
+    pub IsColon-unique : {K K' : List Polynomial} → IsColon F M N K → IsColon F M N K' → SameIdeal F K K'
+    IsColon-unique S T = record {
+      forth = Inside-from L S.polynomials (λ h H G. (T.members h H).1 ((S.members h H).0 G));
+      back = Inside-from L T.polynomials (λ h H G. (S.members h H).1 ((T.members h H).0 G));
+    }
+
+  module _ {M N : List Polynomial} (P : ArePolynomials F M) (Q : ArePolynomials F N) where
     -- The meet is the largest ideal inside both.
     pub Inside-IsMeet_left : {K : List Polynomial} → IsMeet F M N K → Inside F K M
     Inside-IsMeet_left S = Inside-from L S.polynomials (λ h H G. ((S.members h H).0 G).left)
@@ -104,12 +112,6 @@ module _ {F : Field} (L : IsField F) where
 
     pub Inside-IsMeet : {K J : List Polynomial} → ArePolynomials F J → IsMeet F M N K → Inside F J M → Inside F J N → Inside F J K
     Inside-IsMeet S' S I I' = Inside-from L S' (λ h H G. (S.members h H).1 (record { left = Member-Inside L S' P I G; right = Member-Inside L S' Q I' G }))
-
-    pub IsColon-unique : {K K' : List Polynomial} → IsColon F M N K → IsColon F M N K' → SameIdeal F K K'
-    IsColon-unique S T = record {
-      forth = Inside-from L S.polynomials (λ h H G. (T.members h H).1 ((S.members h H).0 G));
-      back = Inside-from L T.polynomials (λ h H G. (S.members h H).1 ((T.members h H).0 G));
-    }
 
     -- Then h g is in (M) for each member g of (N).
     pub Member-InColon : {h g : Polynomial} → IsPolynomial F h → InColon F M N h → Member F N g → Member F M (product F h g)
@@ -135,6 +137,21 @@ module _ {F : Field} (L : IsField F) where
       let X = in_ring P in
       let Z : InRing F (term 1 origin ∷ []) = record { list = (polynomial_ring L).one ∷ []; are = ap (λ f. f ∷ []) (map_one L) } in
       Colon_map X InRing-nil Z (ring_laws.Colon-nil X.list)
+
+  -- So is that by a list of zeros.
+  pub IsColon-zeros : {M N : List Polynomial} → ArePolynomials F M → All (λ g. g ≡ empty) N → IsColon F M N (term 1 origin ∷ [])
+  IsColon-zeros {M} {N} P zeros =
+      let unit = IsColon-nil P in
+      record {
+        polynomials = unit.polynomials;
+        members = λ h H. (
+          λ G. record {
+            each = All-weaker (λ g. g ≡ empty) (λ g. Member F M (product F h g))
+                (λ g e. subst (Member F M) (sym (ap (product F h) e ∙ product_empty L H)) (Member-empty L P)) N zeros;
+          },
+          λ C. (unit.members h H).1 (record { each = All-nil (λ g. Member F M (product F h g)) }),
+        );
+      }
 
   module _ {M : List Polynomial} (P : ArePolynomials F M) {g : Polynomial} (G : IsPolynomial F g) where
     -- The quotient by one polynomial that cancels, from the meet with its ideal: the members of the meet are divided by it.

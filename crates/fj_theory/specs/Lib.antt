@@ -10,6 +10,7 @@ pub mod Ideal
 pub mod FrobeniusPower
 pub mod Root
 pub mod Colon
+pub mod ColonLaws
 pub mod Evaluation
 pub mod RootLaws
 pub mod PointIdeal

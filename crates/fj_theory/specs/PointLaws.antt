@@ -12,12 +12,12 @@ use Rattle.fj_theory.specs.PointIdeal.{UsesFirst, point_ideal}
 -- The value at the point is a map of rings from the polynomials to the field.
 pub record ValueIsRingMap (F : Field) (point : List ℕ) : Type 0 where
   pub element : (f : PolynomialOver F) → value F f.map point < F.size
-  pub zero : value F empty point ≡ 0
-  pub one : value F (term 1 origin) point ≡ 1
-  pub sum : (f g : PolynomialOver F) → value F (sum F f.map g.map) point ≡ F.add (value F f.map point) (value F g.map point)
-  pub negation : (f : PolynomialOver F) → value F (negation F f.map) point ≡ F.neg (value F f.map point)
-  pub product : (f g : PolynomialOver F) → value F (product F f.map g.map) point ≡ F.mul (value F f.map point) (value F g.map point)
-  pub power : (f : PolynomialOver F) (k : ℕ) → value F (power F f.map k) point ≡ field.power F (value F f.map point) k
+  pub keeps_zero : value F empty point ≡ 0
+  pub keeps_one : value F (term 1 origin) point ≡ 1
+  pub keeps_sum : (f g : PolynomialOver F) → value F (sum F f.map g.map) point ≡ F.add (value F f.map point) (value F g.map point)
+  pub keeps_negation : (f : PolynomialOver F) → value F (negation F f.map) point ≡ F.neg (value F f.map point)
+  pub keeps_product : (f g : PolynomialOver F) → value F (product F f.map g.map) point ≡ F.mul (value F f.map point) (value F g.map point)
+  pub keeps_power : (f : PolynomialOver F) (k : ℕ) → value F (power F f.map k) point ≡ field.power F (value F f.map point) k
 
 abbrev pub ValuesAreRingMaps : Type 0
 ValuesAreRingMaps = (F : Field) → IsField F → (point : List ℕ) → IsPoint F point → ValueIsRingMap F point

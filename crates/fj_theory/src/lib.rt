@@ -4,6 +4,7 @@
 //! `proofs/` the laws that the crates above cite. `docs/DEFINITIONS.md` has the definitions in words.
 #![tactic(auto)]
 
+pub mod colons;
 pub mod laws;
 pub mod points;
 pub mod polynomials;

@@ -4,10 +4,10 @@ use Rattle.fj_theory.proofs.points.values_are_ring_maps.Goals as goal
 pub returns : goal.returns
 returns c F L point at = record {
   element = λ f. value_below L at f.is_polynomial;
-  zero = value-empty L at;
-  one = value-one L at;
-  sum = λ f g. value-sum L at f.is_polynomial g.is_polynomial;
-  negation = λ f. value-negation L at f.is_polynomial;
-  product = λ f g. value-product L at f.is_polynomial g.is_polynomial;
-  power = λ f k. value-power L at f.is_polynomial k;
+  keeps_zero = value-empty L at;
+  keeps_one = value-one L at;
+  keeps_sum = λ f g. value-sum L at f.is_polynomial g.is_polynomial;
+  keeps_negation = λ f. value-negation L at f.is_polynomial;
+  keeps_product = λ f g. value-product L at f.is_polynomial g.is_polynomial;
+  keeps_power = λ f k. value-power L at f.is_polynomial k;
 }
