@@ -38,15 +38,16 @@ module _ {K M A : Type 0} (P : OrderedPolynomials K M A) where
             };
           }
 
-  -- The division of a multiple of g by g gives the quotient.
+  -- The division of a multiple of g by g leaves nothing.
+  pub exact_remainder : {g h : A} {t : DivisionState A} → g ≢ 𝟘 → Member P.ring (g ∷ []) h → IsDivision P (g ∷ []) h t → t.remainder ≡ 𝟘
+  exact_remainder {g} nonzero m d = (member_by_remainder P (Inside-refl (g ∷ [])) (covers_single nonzero) (division_remainder P d)).0 m
+
+  -- It gives the quotient.
   pub exact_division : {g h : A} {t : DivisionState A} → g ≢ 𝟘 → Member P.ring (g ∷ []) h → IsDivision P (g ∷ []) h t → h ≡ mul g (get_or t.quotients 0 𝟘)
   exact_division {g} {h} {t} nonzero m d =
-      let identity = division_identity P d in identity.0 ∙ ap (add (list_combination P.ring t.quotients (g ∷ []))) vanishes
+      let identity = division_identity P d in identity.0 ∙ ap (add (list_combination P.ring t.quotients (g ∷ []))) (exact_remainder nonzero m d)
       ∙ P.ring.add_zero (list_combination P.ring t.quotients (g ∷ [])) ∙ single t.quotients identity.1
     where
-      vanishes : t.remainder ≡ 𝟘
-      vanishes = (member_by_remainder P (Inside-refl (g ∷ [])) (covers_single nonzero) (division_remainder P d)).0 m
-
       single : (qs : List A) → length qs ≡ 1 → list_combination P.ring qs (g ∷ []) ≡ mul g (get_or qs 0 𝟘)
       single [] e = absurd (omega arith)
       single (q ∷ []) e = P.ring.add_zero (mul q g) ∙ P.ring.mul_comm q g

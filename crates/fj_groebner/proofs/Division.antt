@@ -13,7 +13,7 @@ use Rattle.fj_algebra.specs.Division as ring_division
 use Rattle.fj_algebra.specs.Sugar as ring_sugar
 use Rattle.fj_algebra.specs.Ideal as ring_ideal
 use Rattle.fj_algebra.proofs.Ring.{ring_laws as ring_rules}
-use Rattle.fj_algebra.proofs.ExactDivision.{exact_division}
+use Rattle.fj_algebra.proofs.ExactDivision.{exact_division, exact_remainder}
 use Rattle.fj_algebra.proofs.Division as ring_laws
 use Rattle.fj_algebra.proofs.Sugar as ring_sugar_laws
 use Rattle.fj_theory.specs.MonomialOrder.{IsMonomialOrder, compare_by}
@@ -496,6 +496,18 @@ module _ {key : List ℕ → List ℕ} (K : IsMonomialOrder key) {F : Field} (L 
           ∙ map_zero L)) (Member_over L (record { list = s.0 ∷ []; are = ap (λ x. x ∷ []) s.2 }) H m) division)
           ∙ map_mul L s.0 (get_or the.state.quotients 0 (polynomial_ring L).zero)
           ∙ ap₂ (product F) s.2 (sym (member_zero the.state.quotients 0) ∙ ap (λ d. get_or d.quotients 0 empty) (sym the.is))
+
+      -- Nothing is left of it.
+      pub IsDivision-exact_remainder : {g : Polynomial} → polynomials_of G ≡ g ∷ [] → Member F (g ∷ []) h.polynomial → last.remainder ≡ empty
+      unfolding forget ordered_polynomials polynomials
+      IsDivision-exact_remainder {g} e m =
+          let s = single ring.list (ring.are ∙ e) in
+          let division = subst (λ N. ring_division.IsDivision P N (over H) the.state) s.1 the.division in
+          let some : g ≢ empty = All-head (λ g. g ≢ empty) g [] (subst (All (λ g. g ≢ empty)) e nonzero) in
+          ap (λ d. d.remainder) the.is
+          ∙ ap (λ f. f.map) (exact_remainder P (λ z. some (sym s.2 ∙ ap (λ f. f.map) z
+          ∙ map_zero L)) (Member_over L (record { list = s.0 ∷ []; are = ap (λ x. x ∷ []) s.2 }) H m) division)
+          ∙ map_zero L
 
       -- By a reduced basis the remainder is zero exactly where h is in the ideal.
       pub Member-IsDivision : {M : List Polynomial} → ArePolynomials F M → IsReducedBasis F key M (polynomials_of G) → Member F M h.polynomial ↔ (last.remainder ≡ empty)

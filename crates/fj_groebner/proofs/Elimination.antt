@@ -3,7 +3,7 @@ use Rattle.std.proofs.Common.{◌≡◌, ◌≢◌, ℕ, suc, ◌<◌, ◌==◌,
 use Rattle.std.specs.Bool.{Decides}
 use Rattle.std.specs.FinMap.{empty, get, entries, get-entries}
 use Rattle.std.proofs.lemmas.List.{map-append}
-use Rattle.std.proofs.lemmas.List.Elements.{All-weaker, All-contains}
+use Rattle.std.proofs.lemmas.List.Elements.{All-nil, All-cons, All-weaker, All-contains}
 use Rattle.std.proofs.lemmas.Bool.Decides.{nat_tests}
 use Rattle.std.proofs.lemmas.List.Sums.{AllPass-from_list_all, list_all-from_AllPass}
 use Rattle.fj_coeff.specs.Field.{Field, IsField}
@@ -14,12 +14,15 @@ use Rattle.fj_algebra.specs.Elimination as ring_elimination
 use Rattle.fj_algebra.proofs.Lists.{All-map_back}
 use Rattle.fj_algebra.proofs.Pairs.{All-from_elements, contains_filter}
 use Rattle.fj_algebra.proofs.Elimination as ring_laws
-use Rattle.fj_theory.specs.MonomialOrder.{elim_key, grevlex_key}
-use Rattle.fj_theory.specs.Polynomial.{difference, Polynomial, IsPolynomial, coefficient, term}
-use Rattle.fj_theory.specs.Ideal.{ArePolynomials, multiples}
+use Rattle.fj_theory.specs.MonomialOrder.{IsMonomialOrder, elim_key, grevlex_key}
+use Rattle.fj_theory.specs.Polynomial.{Polynomial, IsPolynomial, coefficient, difference, term}
+use Rattle.fj_theory.specs.Ideal.{ArePolynomials, Member, multiples}
 use Rattle.fj_theory.specs.Colon.{IsMeet, IsColon}
 use Rattle.fj_theory.specs.PointIdeal.{UsesFirst, variable_exponents}
 use Rattle.fj_groebner.specs.ReducedBasis.{IsReducedBasis}
+use Rattle.fj_groebner.specs.Division.{Sugared, Division, IsDivision}
+use Rattle.fj_groebner.specs.Run.{given}
+use Rattle.fj_groebner.specs.EliminationLaws.{Eliminates, IsExact, DividesOut}
 use Rattle.fj_groebner.specs.Elimination.{eighth_variable, elimination_list, lacks_eighth, without_eighth}
 use Rattle.fj_theory.proofs.Field.{rank_one}
 use Rattle.fj_theory.proofs.Product.{entries_get}
@@ -30,9 +33,12 @@ use Rattle.fj_theory.proofs.PolynomialRing.{map_subtract, PolynomialOver, over_e
 use Rattle.fj_theory.proofs.OrderedPolynomials.{positive, positive_back, exponents_of, Exponents, monomial_order, scalars, term_at, polynomials, ordered_polynomials}
 use Rattle.fj_theory.proofs.EighthVariable.{eighth, elim_eliminates, elim_grevlex_agree, eighth_exponent, eighth_list}
 use Rattle.fj_theory.proofs.UsesFirst.{UsesFirst-from_exponents}
-use Rattle.fj_theory.proofs.IdealBridge.{ArePolynomials-InRing, ArePolynomials-single, over, maps, in_ring, InRing, InRing-nil, InRing-cons, InRing-multiples, multiples_maps}
-use Rattle.fj_theory.proofs.Colon.{IsColon-append, Meet_over, Meet_map, Colon_map}
+use Rattle.fj_theory.proofs.IdealBridge.{ArePolynomials-InRing, ArePolynomials-single, over, maps, in_ring, Member_polynomial, Member_map, Member_over, InRing, InRing-nil, InRing-cons, InRing-multiples, multiples_maps}
+use Rattle.fj_theory.proofs.Ideal.{Member-Inside}
+use Rattle.fj_theory.proofs.Colon.{IsColon-append, Inside-IsMeet_right, Meet_map, Colon_map}
+use Rattle.fj_groebner.proofs.Lacking.{UsesFirst-factors}
 use Rattle.fj_groebner.proofs.ReducedBasis.{IsReducedBasis_polynomials, IsReducedBasis_over, IsReducedBasis_map}
+use Rattle.fj_groebner.proofs.Division.{IsDivision-quotients, IsDivision-length, IsDivision-exact, IsDivision-exact_remainder}
 
 pub filter-map : {X Y : Type 0} (f : X → Y) (p : Y → Bool) (xs : List X) → map f (filter (λ x. p (f x)) xs) ≡ filter p (map f xs)
 filter-map f p [] = refl
@@ -56,6 +62,11 @@ maps_equal [] [] e = refl
 maps_equal [] (g ∷ N) e = let n : 0 ≡ suc (length (maps N)) = ap length e in absurd (omega (arith, n))
 maps_equal (f ∷ M) [] e = let n : suc (length (maps M)) ≡ 0 = ap length e in absurd (omega (arith, n))
 maps_equal (f ∷ M) (g ∷ N) e = ap₂ ◌∷◌ (over_equal f g (ap (λ l. get_or l 0 f.map) e)) (maps_equal M N (ap others e))
+
+only : (qs : List Polynomial) → length qs ≡ 1 → qs ≡ get_or qs 0 empty ∷ []
+only [] e = absurd (omega arith)
+only (q ∷ []) e = refl
+only (q ∷ (p ∷ qs)) e = absurd (omega arith)
 
 module _ {F : Field} (L : IsField F) where
   unfoldable pub eighth_over : variable.Variable (polynomials L).monomials
@@ -137,6 +148,35 @@ module _ {F : Field} (L : IsField F) where
   UsesFirst-without_eighth {G} A = All-from_elements (UsesFirst 7) (filter lacks_eighth G)
       (λ g c. let both = contains_filter lacks_eighth G g c in (lacks_eighth-Decides (All-contains (IsPolynomial F) G g A.each both.0)).0 both.1)
 
+  -- The elimination theorem.
+  module _ {E G : List Polynomial} (A : ArePolynomials F E) (basis : IsReducedBasis F elim_key E G) where
+    basis_polynomials : ArePolynomials F G
+    basis_polynomials = IsReducedBasis_polynomials elim_key-IsMonomialOrder L A basis
+
+    in_ideal : All (Member F E) (without_eighth G)
+    unfolding without_eighth
+    in_ideal = All-from_elements (Member F E) (filter lacks_eighth G)
+        (λ g c. All-contains (Member F E) G g basis.members.each (contains_filter lacks_eighth G g c).0)
+
+    pub elimination_theorem : Eliminates F E G
+    unfolding ordered_polynomials InRing-without eighth_over
+    elimination_theorem =
+        let X = in_ring A in
+        let Z = in_ring basis_polynomials in
+        let W = InRing-without Z in
+        let whole = IsReducedBasis_over elim_key-IsMonomialOrder L X Z basis in
+        record {
+          lack = UsesFirst-without_eighth basis_polynomials;
+          members = λ h H u. (
+            λ m. Member-Inside L (ArePolynomials-InRing W) A (record { each = in_ideal }) m,
+            λ m. Member_map L W (ring_laws.eliminated_member (ordered_polynomials L elim_key-IsMonomialOrder) eighth_over eliminates test test-Decides
+                whole.members whole.covers (over H) (lacks_over (over H) u) (Member_over L X H m)),
+          );
+          basis = IsReducedBasis_map grevlex_key-IsMonomialOrder L W W
+              (ring_laws.eliminated_basis (ordered_polynomials L elim_key-IsMonomialOrder) eighth_over eliminates test test-Decides
+              (monomial_order grevlex_key-IsMonomialOrder) elim_grevlex_agree whole);
+        }
+
   module _ {I J G : List Polynomial} (A : ArePolynomials F I) (B : ArePolynomials F J) (basis : IsReducedBasis F elim_key (elimination_list F I J) G) where
     polynomials_of_basis : ArePolynomials F G
     polynomials_of_basis = IsReducedBasis_polynomials elim_key-IsMonomialOrder L (ArePolynomials-elimination A B) basis
@@ -152,23 +192,28 @@ module _ {F : Field} (L : IsField F) where
         Meet_map L X Y (InRing-without Z) (ring_laws.eliminated_meet (ordered_polynomials L elim_key-IsMonomialOrder) eighth_over eliminates test test-Decides
         (all_lack X lacks_I) (all_lack Y lacks_J) over.members over.covers)
 
-    -- They are the reduced Grevlex basis of the meet.
-    pub IsReducedBasis-elimination : {N : List Polynomial} → All (UsesFirst 7) I → All (UsesFirst 7) J → IsMeet F I J N
-        → IsReducedBasis F grevlex_key N (without_eighth G)
-    unfolding ordered_polynomials InRing-without InRing-elimination eighth_over
-    IsReducedBasis-elimination lacks_I lacks_J meet =
-        let X = in_ring A in
-        let Y = in_ring B in
-        let Z = in_ring polynomials_of_basis in
-        let N = in_ring meet.polynomials in
-        let over = IsReducedBasis_over elim_key-IsMonomialOrder L (InRing-elimination X Y) Z basis in
-        IsReducedBasis_map grevlex_key-IsMonomialOrder L N (InRing-without Z)
-        (ring_laws.eliminated_meet_basis (ordered_polynomials L elim_key-IsMonomialOrder) eighth_over eliminates test test-Decides
-        (monomial_order grevlex_key-IsMonomialOrder) elim_grevlex_agree (all_lack X lacks_I) (all_lack Y lacks_J) over (Meet_over L X Y N meet))
-    -- The quotient by one polynomial: the members of the meet with its ideal are divided by it.
+  -- The division of a multiple of a polynomial by it.
+  pub IsDivision-IsExact : {key : List ℕ → List ℕ} → IsMonomialOrder key → {g h : Polynomial} → IsPolynomial F g → g ≢ empty → Member F (g ∷ []) h
+      → {last : Division} → IsDivision F key (given g ∷ []) (given h) last → IsExact F g h last
+  unfolding given
+  IsDivision-IsExact {key} K {g} {h} P nonzero m {last} D =
+      let A = ArePolynomials-single P in
+      let some = All-cons (λ g. g ≢ empty) g [] nonzero (All-nil (λ g. g ≢ empty)) in
+      let H = Member_polynomial L A m in
+      let one : List Sugared = given g ∷ [] in
+      let quotients = IsDivision-quotients K L one A some H D in
+      let long : length last.quotients ≡ 1 = IsDivision-length K L one A some H D in
+      record {
+        quotient = get_or last.quotients 0 empty;
+        polynomial = quotients.each 0 empty (omega (arith, long));
+        quotients = only last.quotients long;
+        remainder = IsDivision-exact_remainder K L one A some H D refl m;
+        whole = IsDivision-exact K L one A some H D refl m;
+      }
 
-  module _ {I G Q : List Polynomial} {g : Polynomial} (A : ArePolynomials F I) (P : IsPolynomial F g) (basis : IsReducedBasis F elim_key (elimination_list F I (g ∷ [])) G) where
-    pub IsColon-elimination : All (UsesFirst 7) I → UsesFirst 7 g → g ≢ empty → ArePolynomials F Q → without_eighth G ≡ multiples F g Q → IsColon F I (g ∷ []) Q
+  module _ {I G : List Polynomial} {g : Polynomial} (A : ArePolynomials F I) (P : IsPolynomial F g) (basis : IsReducedBasis F elim_key (elimination_list F I (g ∷ [])) G) where
+    -- The quotient by one polynomial: the members of the meet with its ideal are divided by it.
+    pub IsColon-elimination : {Q : List Polynomial} → All (UsesFirst 7) I → UsesFirst 7 g → g ≢ empty → ArePolynomials F Q → without_eighth G ≡ multiples F g Q → IsColon F I (g ∷ []) Q
     unfolding ordered_polynomials InRing-without InRing-elimination eighth_over
     IsColon-elimination lacks_I lacks nonzero B divided =
         let X = in_ring A in
@@ -180,6 +225,19 @@ module _ {F : Field} (L : IsField F) where
         maps_equal _ _ ((InRing-without Z).are ∙ divided ∙ sym ((InRing-multiples L P Y).are)) in
         Colon_map L X one Y (ring_laws.eliminated_colon (ordered_polynomials L elim_key-IsMonomialOrder) eighth_over eliminates test test-Decides
         (all_lack X lacks_I) (lacks_over (over P) lacks) (λ e. nonzero (ap (λ f. f.map) e ∙ map_zero L)) whole.members whole.covers equal)
+
+    pub elimination_divides_out : All (UsesFirst 7) I → UsesFirst 7 g → g ≢ empty → DividesOut F I g G
+    elimination_divides_out lacks_I lacks nonzero =
+        let B = ArePolynomials-single P in
+        let meet = IsMeet-elimination A B basis lacks_I (All-cons (UsesFirst 7) g [] lacks (All-nil (UsesFirst 7))) in
+        let multiples_of_g = Inside-IsMeet_right L A B meet in
+        record {
+          exact = λ key K. All-weaker (Member F (g ∷ [])) (λ h. (last : Division) → IsDivision F key (given g ∷ []) (given h) last → IsExact F g h last)
+              (λ h m last D. IsDivision-IsExact K P nonzero m D) (without_eighth G) multiples_of_g.each;
+          colon = λ Q C e. IsColon-elimination lacks_I lacks nonzero C (sym e);
+          lack = λ Q C e. UsesFirst-factors L P C nonzero
+              (subst (All (UsesFirst 7)) (sym e) (UsesFirst-without_eighth (polynomials_of_basis A B basis)));
+        }
 
   -- The quotient by one polynomial more: the meet of the quotient so far with the quotient by it.
   pub IsColon-more : {I M K Q G : List Polynomial} {g : Polynomial} → IsColon F I M K → IsColon F I (g ∷ []) Q → IsReducedBasis F elim_key (elimination_list F K Q) G

@@ -2,23 +2,30 @@
 use Rattle.std.specs.Prelude.{◌≡◌, ◌≢◌, ℕ, List, All}
 use Rattle.std.specs.FinMap.{empty}
 use Rattle.fj_coeff.specs.Field.{Field, IsField}
-use Rattle.fj_theory.specs.MonomialOrder.{IsMonomialOrder, elim_key, grevlex_key}
+use Rattle.fj_theory.specs.MonomialOrder.{IsMonomialOrder}
 use Rattle.fj_theory.specs.Polynomial.{Polynomial}
 use Rattle.fj_theory.specs.Ideal.{ArePolynomials, Member, SameIdeal}
-use Rattle.fj_theory.specs.Colon.{IsMeet}
-use Rattle.fj_theory.specs.PointIdeal.{UsesFirst}
 use Rattle.fj_theory.specs.Lead.{lead_exponents, lead_coefficient}
 use Rattle.fj_groebner.specs.ReducedBasis.{LeadDivides, IsReducedBasis}
 use Rattle.fj_groebner.specs.Division.{Sugared, polynomials_of}
 use Rattle.fj_groebner.specs.Run.{IsFinished, Unfinished, TooHigh}
 use Rattle.fj_groebner.specs.Criterion.{AllSettled}
-use Rattle.fj_groebner.specs.Elimination.{elimination_list, without_eighth}
 
 -- Lists of one ideal have one reduced basis for an order.
 abbrev pub OneReducedBasis : Type 0
 OneReducedBasis =
     (F : Field) → IsField F → (key : List ℕ → List ℕ) → IsMonomialOrder key → (L M G H : List Polynomial) → ArePolynomials F L → ArePolynomials F M
     → SameIdeal F L M → IsReducedBasis F key L G → IsReducedBasis F key M H → G ≡ H
+
+-- A list that is the reduced basis of an ideal is so for each list that generates it, and it generates it itself.
+pub record BasisIsOfIdeal (F : Field) (key : List ℕ → List ℕ) (L G : List Polynomial) : Type 0 where
+  pub generates : SameIdeal F L G
+  pub same : (M : List Polynomial) → ArePolynomials F M → SameIdeal F L M → IsReducedBasis F key M G
+
+abbrev pub BasesAreOfIdeals : Type 0
+BasesAreOfIdeals =
+    (F : Field) → IsField F → (key : List ℕ → List ℕ) → IsMonomialOrder key → (L G : List Polynomial) → ArePolynomials F L → IsReducedBasis F key L G
+    → BasisIsOfIdeal F key L G
 
 -- Buchberger's criterion: where each pair of a monic list is settled, the lead of each nonzero member of its ideal is
 -- divided by the lead of one of the list.
@@ -42,10 +49,3 @@ pub record OneOutcome (F : Field) (key : List ℕ → List ℕ) (L : List Polyno
 
 abbrev pub RunsHaveOneOutcome : Type 0
 RunsHaveOneOutcome = (F : Field) (key : List ℕ → List ℕ) (L : List Polynomial) (budget : ℕ) → OneOutcome F key L budget
-
--- The members without the eighth variable of the reduced basis, for the order that eliminates it, of the list t I, (1 - t) J
--- are the reduced Grevlex basis of the meet of (I) and (J).
-abbrev pub EliminationGivesMeet : Type 0
-EliminationGivesMeet =
-    (F : Field) → IsField F → (I J G N : List Polynomial) → ArePolynomials F I → ArePolynomials F J → All (UsesFirst 7) I → All (UsesFirst 7) J
-    → IsReducedBasis F elim_key (elimination_list F I J) G → IsMeet F I J N → IsReducedBasis F grevlex_key N (without_eighth G)

@@ -4,5 +4,6 @@ pub mod Run
 pub mod Elimination
 pub mod Criterion
 pub mod BasisLaws
+pub mod EliminationLaws
 pub mod Rows
 pub mod DegreeOrder

@@ -1,11 +1,16 @@
-//! Theorems over the definitions of reduced bases, of the run and of elimination. A function of this module does nothing:
+//! Theorems over the definitions of reduced bases, and of the run. A function of this module does nothing:
 //! its clause is the theorem, and the check proves it.
 
-ghost use Rattle.fj_groebner.specs.BasisLaws.{EliminationGivesMeet, FinishedIsReduced, OneReducedBasis, RunsHaveOneOutcome, SettledPairsCover};
+ghost use Rattle.fj_groebner.specs.BasisLaws.{BasesAreOfIdeals, FinishedIsReduced, OneReducedBasis, RunsHaveOneOutcome, SettledPairsCover};
 
 /// Two lists of one ideal have one reduced basis.
 pub fn one_reduced_basis()
     ensures { OneReducedBasis }
+{}
+
+/// A reduced basis generates its ideal, and is that of each list that does.
+pub fn bases_are_of_ideals()
+    ensures { BasesAreOfIdeals }
 {}
 
 /// Buchberger's criterion: settled pairs give the property on leads.
@@ -21,9 +26,4 @@ pub fn finished_is_reduced()
 /// No list is two of finished, unfinished and too high.
 pub fn runs_have_one_outcome()
     ensures { RunsHaveOneOutcome }
-{}
-
-/// What an elimination basis has without the eighth variable is the reduced Grevlex basis of the meet.
-pub fn elimination_gives_meet()
-    ensures { EliminationGivesMeet }
 {}
