@@ -13,3 +13,4 @@ pub mod Lacking
 pub mod Rows
 pub mod IdealOperations
 pub mod DegreeOrder
+pub mod HighDivision

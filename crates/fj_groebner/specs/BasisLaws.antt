@@ -1,14 +1,15 @@
 -- Laws of reduced bases and of the run that calculates them, which the law functions prove.
-use Rattle.std.specs.Prelude.{◌≡◌, ◌≢◌, ℕ, List, All}
+use Rattle.std.specs.Prelude.{◌≡◌, ◌≢◌, ◌↔◌, ℕ, List, All, map}
 use Rattle.std.specs.FinMap.{empty}
 use Rattle.fj_coeff.specs.Field.{Field, IsField}
-use Rattle.fj_theory.specs.MonomialOrder.{IsMonomialOrder}
-use Rattle.fj_theory.specs.Polynomial.{Polynomial}
+use Rattle.fj_theory.specs.MonomialOrder.{IsMonomialOrder, grlex_key, grevlex_key}
+use Rattle.fj_theory.specs.Polynomial.{Polynomial, IsPolynomial}
 use Rattle.fj_theory.specs.Ideal.{ArePolynomials, Member, SameIdeal}
 use Rattle.fj_theory.specs.Lead.{lead_exponents, lead_coefficient}
 use Rattle.fj_groebner.specs.ReducedBasis.{LeadDivides, IsReducedBasis}
-use Rattle.fj_groebner.specs.Division.{Sugared, polynomials_of}
-use Rattle.fj_groebner.specs.Run.{IsFinished, Unfinished, TooHigh}
+use Rattle.fj_groebner.specs.Division.{Sugared, polynomials_of, degree_limit, DegreeAtMost, IsHighDivision, SubtractsHigh}
+use Rattle.fj_groebner.specs.Run.{given, IsFinished, Unfinished, TooHigh}
+use Rattle.fj_groebner.specs.DegreeOrder.{IsDegreeOrder}
 use Rattle.fj_groebner.specs.Criterion.{AllSettled}
 
 -- Lists of one ideal have one reduced basis for an order.
@@ -49,3 +50,21 @@ pub record OneOutcome (F : Field) (key : List ℕ → List ℕ) (L : List Polyno
 
 abbrev pub RunsHaveOneOutcome : Type 0
 RunsHaveOneOutcome = (F : Field) (key : List ℕ → List ℕ) (L : List Polynomial) (budget : ℕ) → OneOutcome F key L budget
+
+-- Grlex and Grevlex compare the total degrees first.
+pub record DegreeOrders : Type 0 where
+  pub grlex : IsDegreeOrder grlex_key
+  pub grevlex : IsDegreeOrder grevlex_key
+
+-- For polynomials with their degrees as sugars, what is divided being of degree at most 2^40: a sugar above the limit arises in
+-- the division exactly where a product that it subtracts has a term above the limit.
+abbrev pub HighByProducts : Type 0
+HighByProducts =
+    (F : Field) → IsField F → (key : List ℕ → List ℕ) → IsMonomialOrder key → (L : List Polynomial) → ArePolynomials F L → All (λ g. g ≢ empty) L
+    → (h : Polynomial) → IsPolynomial F h → DegreeAtMost degree_limit h → IsHighDivision F key (map given L) (given h) ↔ SubtractsHigh F key (map given L) (given h)
+
+-- In an order that compares the total degrees first no such product has a term above the limit.
+abbrev pub DegreeOrdersAreLow : Type 0
+DegreeOrdersAreLow =
+    (F : Field) → IsField F → (key : List ℕ → List ℕ) → IsMonomialOrder key → IsDegreeOrder key → (L : List Polynomial) → ArePolynomials F L
+    → All (λ g. g ≢ empty) L → (h : Polynomial) → IsPolynomial F h → DegreeAtMost degree_limit h → SubtractsHigh F key (map given L) (given h) → ⊥

@@ -39,12 +39,17 @@ first_divisor key (g ∷ G) a = if divides (lead_exponents key g.polynomial) a t
 unfoldable pub member_at : List Sugared → ℕ → Sugared
 member_at G k = slice_index_or G k (record { polynomial = empty; sugar = 0 })
 
+-- The factor whose product with g has the lead of the dividend.
+abbrev pub cancelling_factor : Field → (List ℕ → List ℕ) → Polynomial → Polynomial → Polynomial
+cancelling_factor F key dividend g =
+    term (F.mul (lead_coefficient key dividend) (F.inverse (lead_coefficient key g))) (minus (lead_exponents key dividend) (lead_exponents key g))
+
 -- The multiple of the member g at the place k that cancels the dividend's lead is subtracted, and its factor is added to
 -- the member's quotient. The sugar rises to that of the multiple.
 unfoldable pub cancel_lead : Field → (List ℕ → List ℕ) → ℕ → Sugared → Division → Division
 cancel_lead F key k g s =
     let monomial = minus (lead_exponents key s.dividend) (lead_exponents key g.polynomial) in
-    let factor = term (F.mul (lead_coefficient key s.dividend) (F.inverse (lead_coefficient key g.polynomial))) monomial in
+    let factor = cancelling_factor F key s.dividend g.polynomial in
     record {
       dividend = difference F s.dividend (product F factor g.polynomial);
       quotients = set s.quotients k (sum F (slice_index_or s.quotients k empty) factor);
@@ -93,6 +98,18 @@ pub record IsHighDivision (F : Field) (key : List ℕ → List ℕ) (G : List Su
   pub reached : Division
   pub steps : StepsTo (IsDivisionStep F key G) (division_start G h) states reached
   pub high : degree_limit < reached.sugar
+
+-- In the division of h by the list a product is subtracted that has a term with a total above the limit.
+pub record SubtractsHigh (F : Field) (key : List ℕ → List ℕ) (G : List Sugared) (h : Sugared) : Type 0 where
+  pub states : List Division
+  pub reached : Division
+  pub steps : StepsTo (IsDivisionStep F key G) (division_start G h) states reached
+  pub unfinished : reached.dividend ≢ empty
+  pub place : ℕ
+  pub divisor : first_divisor key G (lead_exponents key reached.dividend) ≡ Some place
+  pub exponents : List ℕ
+  pub in_product : let g = (member_at G place).polynomial in 0 < coefficient (product F (cancelling_factor F key reached.dividend g) g) exponents
+  pub high : degree_limit < total exponents
 
 -- Each term of the polynomial has a total of at most the bound.
 pub record DegreeAtMost (bound : ℕ) (f : Polynomial) : Type 0 where

@@ -1,7 +1,7 @@
 //! Theorems over the definitions of reduced bases, and of the run. A function of this module does nothing:
 //! its clause is the theorem, and the check proves it.
 
-ghost use Rattle.fj_groebner.specs.BasisLaws.{BasesAreOfIdeals, FinishedIsReduced, OneReducedBasis, RunsHaveOneOutcome, SettledPairsCover};
+ghost use Rattle.fj_groebner.specs.BasisLaws.{BasesAreOfIdeals, DegreeOrders, DegreeOrdersAreLow, FinishedIsReduced, HighByProducts, OneReducedBasis, RunsHaveOneOutcome, SettledPairsCover};
 
 /// Two lists of one ideal have one reduced basis.
 pub fn one_reduced_basis()
@@ -26,4 +26,19 @@ pub fn finished_is_reduced()
 /// No list is two of finished, unfinished and too high.
 pub fn runs_have_one_outcome()
     ensures { RunsHaveOneOutcome }
+{}
+
+/// Grlex and Grevlex compare the total degrees first.
+pub fn degree_orders()
+    ensures { DegreeOrders }
+{}
+
+/// A sugar above the limit arises exactly where a product that is subtracted has a term above it.
+pub fn high_by_products()
+    ensures { HighByProducts }
+{}
+
+/// In an order that compares the total degrees first no product that is subtracted has a term above the limit.
+pub fn degree_orders_are_low()
+    ensures { DegreeOrdersAreLow }
 {}

@@ -6,7 +6,7 @@ use Rattle.fj_coeff.specs.Field as field
 use Rattle.fj_algebra.specs.Power as ring
 use Rattle.fj_algebra.specs.Ring.{RingMap, subtract}
 use Rattle.fj_algebra.proofs.Power.{power-power, power-1}
-use Rattle.fj_algebra.proofs.Ring.{zero_mul, equal_from_subtract, keeps_subtract, subtract_self}
+use Rattle.fj_algebra.proofs.Ring.{mul_zero, zero_mul, equal_from_subtract, keeps_subtract, subtract_self}
 use Rattle.fj_theory.specs.PartTerms.{iterated_root}
 use Rattle.fj_theory.proofs.Field.{Element, element_equal, zero_below, rank_zero, rank_one, rank_mul}
 use Rattle.fj_theory.proofs.Product.{K}
@@ -30,6 +30,16 @@ module _ {F : Field} (L : IsField F) where
   pub mul_inverse : (x : Element F) (h : 0 < x.rank) → (K L).mul x (inverse x h) ≡ (K L).one
   unfolding inverse
   mul_inverse x h = element_equal _ _ (rank_mul L x (inverse x h) ∙ L.mul_inverse x.rank h x.below ∙ sym (rank_one L))
+
+  -- The inverse isn't zero.
+  pub inverse_positive : (d : ℕ) → 0 < d → d < F.size → 0 < F.inverse d
+  unfolding inverse
+  inverse_positive d h b = ⊎_elim (λ z. absurd (none z)) (λ p. p) (eq-zero-or-pos (F.inverse d))
+    where
+      none : F.inverse d ≡ 0 → ⊥
+      none z =
+          let x : Element F = record { rank = d; below = b } in
+          one_not_zero (sym (mul_inverse x h) ∙ ap ((K L).mul x) (element_equal (inverse x h) (K L).zero (z ∙ sym (rank_zero L))) ∙ mul_zero (K L) x)
 
   -- A product is zero only where a factor is.
   pub zero_product : (x y : Element F) → 0 < x.rank → (K L).mul x y ≡ (K L).zero → y ≡ (K L).zero

@@ -1,5 +1,5 @@
 -- Laws of runs as lists of states.
-use Rattle.std.proofs.Common.{◌≡◌, ◌+◌, ◌≤◌, List, [], ◌∷◌, length, sym, ◌∙◌, subst, arith}
+use Rattle.std.proofs.Common.{◌≡◌, ◌+◌, ◌≤◌, List, [], ◌∷◌, ◌++◌, length, refl, sym, ◌∙◌, subst, arith}
 use Rattle.fj_theory.specs.Steps.{StepsTo}
 
 module _ {S : Type 0} (Step : S → S → Type 0) where
@@ -7,6 +7,11 @@ module _ {S : Type 0} (Step : S → S → Type 0) where
   pub StepsTo-keeps : (Q : S → Type 0) → ((s t : S) → Step s t → Q s → Q t) → (states : List S) (first last : S) → StepsTo Step first states last → Q first → Q last
   StepsTo-keeps Q keeps [] first last e q = subst Q e q
   StepsTo-keeps Q keeps (x ∷ states) first last h q = StepsTo-keeps Q keeps states x last h.1 (keeps first x h.0 q)
+
+  -- One more step at the end.
+  pub StepsTo-more : (states : List S) (first last next : S) → StepsTo Step first states last → Step last next → StepsTo Step first (states ++ next ∷ []) next
+  StepsTo-more [] first last next h s = (subst (λ x. Step x next) (sym h) s, refl)
+  StepsTo-more (x ∷ states) first last next h s = (h.0, StepsTo-more states x last next h.1 s)
 
   module _ (one : (s t u : S) → Step s t → Step s u → t ≡ u) where
     -- Where each state has one next state, fewer steps lead to a state on the way.
