@@ -1,42 +1,66 @@
 -- Where a list lacks a variable, so does each reduced basis of its ideal.
-use Rattle.std.proofs.Common.{◌≡◌, ◌≢◌, ◌⊎◌, inl, inr, ℕ, zero, List, get_or, All, Contains, sym, ap, ap₂, ◌∙◌, subst, arith}
+use Rattle.std.proofs.Common.{◌≡◌, ◌≢◌, ◌⊎◌, inl, inr, ℕ, zero, ◌<◌, ◌≤◌, List, get_or, All, Contains, sym, ap, ap₂, ◌∙◌, subst, arith}
 use native.Mathlib.Decide.{ℕ_discrete}
 use Rattle.std.proofs.lemmas.List.Elements.{All-map}
 use Rattle.fj_coeff.specs.Field.{Field, IsField}
 use Rattle.fj_algebra.specs.Ring.{subtract}
+use Rattle.fj_algebra.specs.Ideal.{Member}
+use Rattle.fj_algebra.specs.Colon.{Meet, Colon}
 use Rattle.fj_algebra.specs.Order.{Divides}
-use Rattle.fj_algebra.specs.Polynomial.{OrderedPolynomials, IsLead}
+use Rattle.fj_algebra.specs.Polynomial.{PolynomialRing, OrderedPolynomials, IsLead}
 use Rattle.fj_algebra.specs.Buchberger.{IsReducible}
 use Rattle.fj_algebra.specs.ReducedBasis as basis
 use Rattle.fj_algebra.specs.Variable.{Variable, Eliminates, monomial_power, Lacks, IsPowerCoefficient}
 use Rattle.fj_algebra.proofs.Lists.{All-map_back}
 use Rattle.fj_algebra.proofs.Ring.{equal_from_subtract, subtract_self}
-use Rattle.fj_algebra.proofs.Ideal.{Member-subtract, Inside-Contains}
+use Rattle.fj_algebra.proofs.Ideal.{Member-same, Member-subtract, Inside-Contains}
 use Rattle.fj_algebra.proofs.Order.{not_below_multiple, one_times, Divides-trans, Divides-refl}
 use Rattle.fj_algebra.proofs.Pairs.{pair_of, All-from_elements}
 use Rattle.fj_algebra.proofs.Polynomial.{Supported-zero, coefficient_zero, at_most_lead, coefficient_subtract, coefficient_outside, lead_from_monic, lead_or_zero, lead_nonzero, lead_unique}
-use Rattle.fj_algebra.proofs.Variable.{power_coefficient, coefficient_member, exponent_divides}
+use Rattle.fj_algebra.proofs.Variable.{power_coefficient, coefficient_member, coefficient_of_product, exponent_divides}
 use Rattle.fj_theory.specs.MonomialOrder.{IsMonomialOrder}
 use Rattle.fj_theory.specs.Polynomial.{Polynomial, IsPolynomial, product}
 use Rattle.fj_theory.specs.Ideal.{ArePolynomials, multiples}
+use Rattle.fj_theory.specs.Colon.{IsMeet, IsColon}
 use Rattle.fj_theory.specs.PointIdeal.{UsesFirst}
 use Rattle.fj_groebner.specs.ReducedBasis.{IsReducedBasis}
 use Rattle.std.specs.FinMap.{empty}
 use Rattle.fj_algebra.proofs.Leads.{lead_product}
 use Rattle.fj_algebra.proofs.Elimination.{lacks_from_lead}
 use Rattle.fj_theory.proofs.Keys.{first_key-IsMonomialOrder}
-use Rattle.fj_theory.proofs.PolynomialRing.{polynomial_ring, map_zero, map_mul}
+use Rattle.fj_theory.proofs.PolynomialRing.{PolynomialOver, polynomial_ring, map_zero, map_mul}
 use Rattle.fj_theory.proofs.OrderedPolynomials.{ordered_polynomials, polynomials}
 use Rattle.fj_theory.proofs.IdealBridge.{over, in_ring}
+use Rattle.fj_theory.proofs.Colon.{Meet_over, Colon_over}
 use Rattle.fj_groebner.proofs.ReducedBasis.{IsReducedBasis_polynomials, IsReducedBasis_over}
 use Rattle.fj_theory.proofs.UsesFirst.{variable_over, Lacks-UsesFirst, UsesFirst-Lacks, Lacks-InRing}
 use Rattle.fj_theory.proofs.Variables.{first_key_eliminates}
+
+-- The ideal has the coefficients of its members at each power of the variable.
+record HasCoefficients {K M A : Type 0} (P : PolynomialRing K M A) (t : Variable P.monomials) (L : List A) : Type 0 where
+  member : {k : ℕ} {h g : A} → Member P.ring L h → IsPowerCoefficient P t k h g → Member P.ring L g
 
 module _ {K M A : Type 0} (P : OrderedPolynomials K M A) (t : Variable P.monomials) where
   open P use {coefficient, ring.{zero as 𝟘}, field.ring as scalars, monomials.{times}, order}
   open t use {variable, exponent, rest}
 
-  module _ {L G : List A} (lacks : All (Lacks P.polynomials t) L) (reduced : basis.IsReducedBasis P L G) where
+  -- An ideal of polynomials without the variable has them, and so have meets and quotients of such ideals.
+  lacking-HasCoefficients : {L : List A} → All (Lacks P.polynomials t) L → HasCoefficients P.polynomials t L
+  lacking-HasCoefficients lacks = record { member = λ m c. coefficient_member P t lacks m c }
+
+  meet-HasCoefficients : {I J N : List A} → HasCoefficients P.polynomials t I → HasCoefficients P.polynomials t J → Meet P.ring I J N → HasCoefficients P.polynomials t N
+  meet-HasCoefficients X Y S = record { member = λ {k} {h} {g} m c. S.both g (X.member (S.left h m) c) (Y.member (S.right h m) c) }
+
+  colon-HasCoefficients : {I J N : List A} → HasCoefficients P.polynomials t I → All (Lacks P.polynomials t) J → Colon P.ring I J N → HasCoefficients P.polynomials t N
+  colon-HasCoefficients X lacks S = record {
+    member = λ {k} {h} {g} m c.
+        let C = S.sound h m in
+        S.complete g (record {
+          each = λ i d l. Member-same (P.ring.mul_comm g _) (X.member (Member-same (P.ring.mul_comm _ h) (C.each i d l)) (coefficient_of_product P t (lacks i d l) c));
+        });
+  }
+
+  module _ {L G : List A} (has : HasCoefficients P.polynomials t L) (reduced : basis.IsReducedBasis P L G) where
     -- The lead of a member divides no monomial of another one.
     only : (b c : A) → Contains G b → Contains G c → (x y : M) → coefficient b x ≢ scalars.zero → IsLead P c y → Divides P.monomials y x → c ≡ b
     only b c i j x y n l d = elim (pair_of (basis.AreReduced P) G reduced.reduced b c i j) [
@@ -66,7 +90,7 @@ module _ {K M A : Type 0} (P : OrderedPolynomials K M A) (t : Variable P.monomia
               at : (g ≡ 𝟘) ⊎ ((e : M) × IsLead P g e) → exponent a ≡ 0
               at (inl z) = absurd (l.nonzero (sym here ∙ ap (λ f. coefficient f (rest a)) z ∙ coefficient_zero P.polynomials (rest a)))
               at (inr (e, k)) =
-                  let r = reduced.covers.covers g (coefficient_member P t lacks (Inside-Contains reduced.members i) c) (lead_nonzero P k) in
+                  let r = reduced.covers.covers g (has.member (Inside-Contains reduced.members i) c) (lead_nonzero P k) in
                   let z = c.lacks.within e k.nonzero in
                   let x = times (monomial_power P.monomials variable (exponent a)) e in
                   exponent_divides t a e
@@ -89,7 +113,7 @@ module _ {K M A : Type 0} (P : OrderedPolynomials K M A) (t : Variable P.monomia
                   let some : coefficient b e ≢ scalars.zero = (λ z. k.nonzero (coefficient_subtract P.polynomials b g e ∙ ap₂ (subtract scalars) z none
                   ∙ subtract_self scalars scalars.zero)) in
                   let inside = Inside-Contains reduced.members i in
-                  let r = reduced.covers.covers (subtract P.ring b g) (Member-subtract inside (coefficient_member P t lacks inside c)) (lead_nonzero P k) in
+                  let r = reduced.covers.covers (subtract P.ring b g) (Member-subtract inside (has.member inside c)) (lead_nonzero P k) in
                   let d = own b i a l e some e (Divides-refl P.monomials e) (subst (IsReducible P (Contains G)) (lead_unique P r.is_lead k) r.reducible) in
                   elim ((at_most_lead P l.top).within e some) [
                     | inl below ↦ not_below_multiple order d below
@@ -100,7 +124,7 @@ module _ {K M A : Type 0} (P : OrderedPolynomials K M A) (t : Variable P.monomia
               at (inl z) = subst (Lacks P.polynomials t) (sym (equal_from_subtract P.ring b g z)) c.lacks
               at (inr (e, k)) = absurd (refuted e k (ℕ_discrete (exponent e) 0))
 
-    pub reduced_basis_lacks : All (Lacks P.polynomials t) G
+    reduced_basis_lacks : All (Lacks P.polynomials t) G
     reduced_basis_lacks = All-from_elements (Lacks P.polynomials t) G (λ b i. let m = reduced.monic.lead b i in rest_lacks b i m.0 (lead_from_monic P m.1))
 
   -- A factor of a polynomial without the variable lacks it.
@@ -115,17 +139,46 @@ module _ {K M A : Type 0} (P : OrderedPolynomials K M A) (t : Variable P.monomia
           let sum = t.exponent_times a b in
           lacks_from_lead P t eliminates k (omega (arith, whole, sum))
 
--- A reduced basis of polynomials that use the first n variables uses them alone.
-pub IsReducedBasis-UsesFirst : {key : List ℕ → List ℕ} (K : IsMonomialOrder key) {F : Field} (L : IsField F) {n : ℕ} {M G : List Polynomial} → ArePolynomials F M
-    → All (UsesFirst n) M
-    → IsReducedBasis F key M G → All (UsesFirst n) G
-unfolding ordered_polynomials
-IsReducedBasis-UsesFirst K L {n} {M} {G} A uses S =
-    let X = in_ring A in
-    let Y = in_ring (IsReducedBasis_polynomials K L A S) in
-    subst (All (UsesFirst n)) Y.are (All-map (UsesFirst n) (λ f. f.map) Y.list
-    (λ k d h. UsesFirst-Lacks L (get_or Y.list k d) (λ i b l.
-    reduced_basis_lacks (ordered_polynomials L K) (variable_over L i b) (Lacks-InRing L i b l X uses) (IsReducedBasis_over K L X Y S) k d h)))
+-- The ideal has the coefficients of its members at each power of each variable past the first n.
+record HasAll {F : Field} (L : IsField F) (n : ℕ) (N : List (PolynomialOver F)) : Type 0 where
+  at : (i : ℕ) (b : i < 8) → n ≤ i → HasCoefficients (polynomials L) (variable_over L i b) N
+
+module _ {key : List ℕ → List ℕ} (K : IsMonomialOrder key) {F : Field} (L : IsField F) {n : ℕ} where
+  -- Then its reduced bases use the first n variables alone.
+  uses_first : {M G : List Polynomial} (A : ArePolynomials F M) → HasAll L n (in_ring A).list → IsReducedBasis F key M G → All (UsesFirst n) G
+  unfolding ordered_polynomials
+  uses_first {M} {G} A has S =
+      let X = in_ring A in
+      let Y = in_ring (IsReducedBasis_polynomials K L A S) in
+      subst (All (UsesFirst n)) Y.are (All-map (UsesFirst n) (λ f. f.map) Y.list
+      (λ k d h. UsesFirst-Lacks L (get_or Y.list k d) (λ i b l.
+      reduced_basis_lacks (ordered_polynomials L K) (variable_over L i b) (has.at i b l) (IsReducedBasis_over K L X Y S) k d h)))
+
+  list_has : {M : List Polynomial} (A : ArePolynomials F M) → All (UsesFirst n) M → HasAll L n (in_ring A).list
+  unfolding ordered_polynomials
+  list_has A uses = record { at = λ i b l. lacking-HasCoefficients (ordered_polynomials L K) (variable_over L i b) (Lacks-InRing L i b l (in_ring A) uses) }
+
+  -- A reduced basis of polynomials that use the first n variables uses them alone.
+  pub IsReducedBasis-UsesFirst : {M G : List Polynomial} → ArePolynomials F M → All (UsesFirst n) M → IsReducedBasis F key M G → All (UsesFirst n) G
+  IsReducedBasis-UsesFirst A uses S = uses_first A (list_has A uses) S
+
+  module _ {I J : List Polynomial} (A : ArePolynomials F I) (B : ArePolynomials F J) (uses_I : All (UsesFirst n) I) (uses_J : All (UsesFirst n) J) where
+    -- So does one of a meet, and of a quotient, of ideals of such polynomials.
+    pub IsMeet-UsesFirst : {M G : List Polynomial} → IsMeet F I J M → IsReducedBasis F key M G → All (UsesFirst n) G
+    unfolding ordered_polynomials polynomials
+    IsMeet-UsesFirst meet S =
+        uses_first meet.polynomials (record {
+          at = λ i b l. meet-HasCoefficients (ordered_polynomials L K) (variable_over L i b) ((list_has A uses_I).at i b l) ((list_has B uses_J).at i b l)
+              (Meet_over L (in_ring A) (in_ring B) (in_ring meet.polynomials) meet);
+        }) S
+
+    pub IsColon-UsesFirst : {M G : List Polynomial} → IsColon F I J M → IsReducedBasis F key M G → All (UsesFirst n) G
+    unfolding ordered_polynomials polynomials
+    IsColon-UsesFirst colon S =
+        uses_first colon.polynomials (record {
+          at = λ i b l. colon-HasCoefficients (ordered_polynomials L K) (variable_over L i b) ((list_has A uses_I).at i b l) (Lacks-InRing L i b l (in_ring B) uses_J)
+              (Colon_over L (in_ring A) (in_ring B) (in_ring colon.polynomials) colon);
+        }) S
 
 -- A factor of a polynomial that uses the first n variables uses them alone.
 pub UsesFirst-factor : {F : Field} (L : IsField F) {n : ℕ} {f g : Polynomial} → IsPolynomial F f → IsPolynomial F g → f ≢ empty → UsesFirst n (product F f g) → UsesFirst n g

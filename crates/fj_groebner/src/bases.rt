@@ -1,7 +1,7 @@
 //! Theorems over the definitions of reduced bases, and of the run. A function of this module does nothing:
 //! its clause is the theorem, and the check proves it.
 
-ghost use Rattle.fj_groebner.specs.BasisLaws.{BasesAreOfIdeals, DegreeOrders, DegreeOrdersAreLow, FinishedIsReduced, HighByProducts, OneReducedBasis, RunsHaveOneOutcome, SettledPairsCover};
+ghost use Rattle.fj_groebner.specs.BasisLaws.{BasesAreOfIdeals, BasesKeepVariables, DegreeOrders, DegreeOrdersAreLow, FinishedIsReduced, HighByProducts, OneReducedBasis, RunsHaveOneOutcome, SettledPairsCover};
 
 /// Two lists of one ideal have one reduced basis.
 pub fn one_reduced_basis()
@@ -11,6 +11,11 @@ pub fn one_reduced_basis()
 /// A reduced basis generates its ideal, and is that of each list that does.
 pub fn bases_are_of_ideals()
     ensures { BasesAreOfIdeals }
+{}
+
+/// The reduced bases of ideals in the first variables, of their meets and of their quotients use these variables alone.
+pub fn bases_keep_variables()
+    ensures { BasesKeepVariables }
 {}
 
 /// Buchberger's criterion: settled pairs give the property on leads.
