@@ -13,3 +13,4 @@ pub mod ThresholdLaws
 pub mod SearchExamples
 pub mod MonomialLaws
 pub mod Examples
+pub mod Overview
