@@ -56,8 +56,10 @@ module _ {F : Field} (L : IsField F) {f : Polynomial} (A : IsPolynomial F f) whe
       go (inr inside) =
           let found = Any-element (IsInside t) (gaps gaps_are.candidates) inside in
           let rising = compare-IsTotalOrder.trans found.0.lower t found.0.upper found.2.above found.2.below in
-          let opened = gaps_are.complete found.0 found.1 (λ C. no_jump-inside_constant L A found.0.lower found.0.upper rising C t found.2.above found.2.below jump) in
-          inr (opened.0, found.0, opened.1, opened.2, found.2)
+          elim (gaps_are.constant_or_open found.0 found.1) [
+            | inl C ↦ absurd (no_jump-inside_constant L A found.0.lower found.0.upper rising C t found.2.above found.2.below jump)
+            | inr opened ↦ inr (opened.0, found.0, opened.1, opened.2, found.2)
+          ]
 
   pub complete_list : (E : ℕ) → 1 ≤ E → {jumps : List Jump} → AreJumps F f E jumps → IsComplete F f E → (t : Fraction) → IsInUnitInterval t
       → IsJump F f t ↔ Any (λ jump. SameValue t jump.at) jumps

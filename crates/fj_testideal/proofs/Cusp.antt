@@ -15,7 +15,7 @@ use Rattle.fj_theory.specs.Evaluation.{IsPoint, IsZeroOf, monomial_value, value 
 use Rattle.fj_theory.specs.MonomialOrder.{lex_key}
 use Rattle.fj_theory.specs.Root.{IsRoot}
 use Rattle.fj_theory.proofs.PolynomialRing.{sum_empty, power_suc, product_one, product_comm, IsPolynomial-power}
-use Rattle.fj_theory.proofs.IdealBridge.{ArePolynomials-cons, ArePolynomials-single}
+use Rattle.fj_theory.proofs.IdealBridge.{ArePolynomials-cons, ArePolynomials-single, IsPolynomial-one}
 use Rattle.fj_theory.proofs.Ideal.{SameIdeal-refl, Member-product, Member-all, Member-Contains, Inside-cons, Inside-single, Inside-head, Inside-Contains}
 use Rattle.fj_theory.proofs.Evaluation.{value-term, value-one, Member-IsZeroOf}
 use Rattle.fj_theory.proofs.FrobeniusPower.{ArePolynomials-frobenius_power}
@@ -201,18 +201,21 @@ pub cusp_over_five : IsCuspOverFive
 unfolding term origin
 cusp_over_five =
     let interval : IsInUnitInterval four_fifths = record { above_zero = lit< tt; at_most_one = lit< tt } in
+    let own = SameIdeal-refl L (ArePolynomials-single A) in
+    let whole = SameIdeal-refl L (ArePolynomials-single (IsPolynomial-one L)) in
+    let middle = SameIdeal-refl L yx_polynomials in
     let limit_from_f : IsLimit (prime_field 5) cusp (4 ∷ []) (cusp ∷ []) (cusp ∷ []) =
-    record { lists = []; chain = refl; next = cusp ∷ []; follows = (cusp ∷ [], refl, step_from_f); repeats = SameIdeal-refl L (ArePolynomials-single A) } in
+    record { lists = []; chain = own; next = cusp ∷ []; follows = (cusp ∷ [], own, step_from_f); repeats = SameIdeal-refl L (ArePolynomials-single A) } in
     let limit_from_one : IsLimit (prime_field 5) cusp (4 ∷ []) unit yx =
-    record { lists = yx ∷ []; chain = ((unit, refl, first_from_one), refl); next = yx; follows = (yx, refl, step_from_yx); repeats = SameIdeal-refl L yx_polynomials } in
-    let test_ideal = test_ideal-from_digits L A four_fifths interval _ expansion limit_from_f (cusp ∷ [], refl, last_from_f) in
-    let left_limit = left_limit-from_digits L A four_fifths interval _ expansion limit_from_one (yx, refl, last_from_yx) in
+    record { lists = yx ∷ []; chain = ((unit, whole, first_from_one), middle); next = yx; follows = (yx, middle, step_from_yx); repeats = SameIdeal-refl L yx_polynomials } in
+    let test_ideal = test_ideal-from_digits L A four_fifths interval _ expansion limit_from_f (cusp ∷ [], own, last_from_f) in
+    let left_limit = left_limit-from_digits L A four_fifths interval _ expansion limit_from_one (yx, middle, last_from_yx) in
     record {
       expansion = expansion;
       limit_from_f = limit_from_f;
-      digits_from_f = (cusp ∷ [], refl, last_from_f);
+      digits_from_f = (cusp ∷ [], own, last_from_f);
       limit_from_one = limit_from_one;
-      digits_from_one = (yx, refl, last_from_yx);
+      digits_from_one = (yx, middle, last_from_yx);
       test_ideal = test_ideal;
       left_limit = left_limit;
       is_jump = jump_from_difference L A four_fifths interval.above_zero left_limit test_ideal (λ E. one_outside (Inside-head E.forth));

@@ -96,8 +96,8 @@ module _ {F : Field} (L : IsField F) where
         let left : IsLeftLimit F (x 1) one (x 0 ∷ []) = left_limit-monomial L (IsExponents-x 1) one (lit< tt) in
         record {
           digits_of_one = ap (λ p. digits p one 0 1) two;
-          limit_from_f = record { lists = []; chain = refl; next = x 1 ∷ []; follows = (x 1 ∷ [], refl, step_x 1 1 1 1 refl); repeats = same 1 };
-          limit_from_one = record { lists = []; chain = refl; next = x 0 ∷ []; follows = (x 0 ∷ [], refl, step_x 1 1 0 0 refl); repeats = same 0 };
+          limit_from_f = record { lists = []; chain = same 1; next = x 1 ∷ []; follows = (x 1 ∷ [], same 1, step_x 1 1 1 1 refl); repeats = same 1 };
+          limit_from_one = record { lists = []; chain = same 0; next = x 0 ∷ []; follows = (x 0 ∷ [], same 0, step_x 1 1 0 0 refl); repeats = same 0 };
           left_limit = left;
           apart = λ other. let e = apart 0 1 (IsLeftLimit-unique left other) in absurd (omega arith);
         }
@@ -110,16 +110,16 @@ module _ {F : Field} (L : IsField F) where
           digits_of_third = ap (λ p. digits p third 0 2) two;
           limit = record {
             lists = (x 2 ∷ []) ∷ (x 1 ∷ []) ∷ [];
-            chain = ((x 5 ∷ [], (x 5 ∷ [], refl, step_x 5 1 5 5 refl), step_x 5 0 5 2 refl), ((x 3 ∷ [], (x 2 ∷ [], refl, step_x 5 1 2 3 refl), step_x 5 0 3 1 refl), refl));
+            chain = ((x 5 ∷ [], (x 5 ∷ [], same 5, step_x 5 1 5 5 refl), step_x 5 0 5 2 refl), ((x 3 ∷ [], (x 2 ∷ [], same 2, step_x 5 1 2 3 refl), step_x 5 0 3 1 refl), same 1));
             next = x 1 ∷ [];
-            follows = (x 3 ∷ [], (x 1 ∷ [], refl, step_x 5 1 1 3 refl), step_x 5 0 3 1 refl);
+            follows = (x 3 ∷ [], (x 1 ∷ [], same 1, step_x 5 1 1 3 refl), step_x 5 0 3 1 refl);
             repeats = same 1;
           };
           other_limit = record {
             lists = (x 3 ∷ []) ∷ [];
-            chain = ((x 2 ∷ [], (x 5 ∷ [], refl, step_x 5 0 5 2 refl), step_x 5 1 2 3 refl), refl);
+            chain = ((x 2 ∷ [], (x 5 ∷ [], same 5, step_x 5 0 5 2 refl), step_x 5 1 2 3 refl), same 3);
             next = x 3 ∷ [];
-            follows = (x 1 ∷ [], (x 3 ∷ [], refl, step_x 5 0 3 1 refl), step_x 5 1 1 3 refl);
+            follows = (x 1 ∷ [], (x 3 ∷ [], same 3, step_x 5 0 3 1 refl), step_x 5 1 1 3 refl);
             repeats = same 3;
           };
           test_ideal = limit;

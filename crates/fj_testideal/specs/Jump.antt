@@ -24,3 +24,10 @@ pub record IsConstant (F : Field) (f : Polynomial) (s t : Fraction) : Type 0 whe
   pub ideal : List Polynomial
   pub at_start : IsTestIdeal F f s ideal
   pub between : (e m : ℕ) → IsBetween s t m (F.characteristic ^ e) → IsRoot F (F.characteristic ^ e) (power F f m ∷ []) ideal
+
+-- A change on [s, t): a number m/p^e in it at which the test ideal isn't (S).
+pub record HoldsChange (F : Field) (f : Polynomial) (s t : Fraction) (S : List Polynomial) : Type 0 where
+  pub e : ℕ
+  pub m : ℕ
+  pub between : IsBetween s t m (F.characteristic ^ e)
+  pub differs : IsRoot F (F.characteristic ^ e) (power F f m ∷ []) S → ⊥

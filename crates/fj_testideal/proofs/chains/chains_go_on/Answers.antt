@@ -1,0 +1,5 @@
+use Rattle.fj_testideal.proofs.Chain.{IsChain-push}
+use Rattle.fj_testideal.proofs.chains.chains_go_on.Goals as goal
+
+pub returns : goal.returns
+returns c F L f A period first P lists last next chain follows = IsChain-push L A period lists first last next P chain follows
