@@ -1,6 +1,9 @@
 -- Chains of roots, one digit at a time: what they reach, that they rise or fall, and that a repeat is for good.
-use Rattle.std.proofs.Common.{◌≡◌, ℕ, zero, suc, ◌+◌, ◌*◌, ◌^◌, ◌<◌, ◌≤◌, List, [], ◌∷◌, ◌++◌, length, take, get_or, All, Any, Contains, inl, inr, refl, sym, ap, ap₂, ◌∙◌, subst, arith}
+use Rattle.std.proofs.Common.{◌≡◌, ℕ, zero, suc, ◌+◌, ◌*◌, ◌^◌, ◌<◌, ◌≤◌, List, [], ◌∷◌, ◌++◌, length, length-append, take, get_or, All, Any, Contains, inl, inr, refl, sym, ap, ap₂, ◌∙◌, subst, arith}
 use Rattle.std.proofs.Math.Nat.{pow-zero, pow-suc, one-le-pow, mul-le-mul_left}
+use Rattle.std.proofs.Math.Seq.{get_or-append_seam}
+use Rattle.std.proofs.lemmas.Bool.{cases_lt}
+use Rattle.std.proofs.lemmas.List.{get_or_append_left}
 use Rattle.std.proofs.lemmas.Nat.{pow-add}
 use Rattle.std.proofs.lemmas.List.Elements.{All-head, All-tail, All-weaker}
 use Rattle.fj_coeff.specs.Field.{Field, IsField}
@@ -17,7 +20,7 @@ use Rattle.fj_theory.proofs.Ideal.{ArePolynomials-multiples, SameIdeal-sym, Same
 use Rattle.fj_theory.proofs.PolynomialRing.{IsPolynomial-power, product_comm, product_one, power_zero, power_first, power_add}
 use Rattle.fj_theory.proofs.Root.{IsRoot-1, IsRoot-unique, IsRoot-SameIdeal, IsRoot-SameIdeal_root}
 use Rattle.fj_theory.proofs.RootParts.{IsRoot-digit}
-use Rattle.fj_testideal.specs.Chain.{FollowsDigits, IsChain, IsLimit}
+use Rattle.fj_testideal.specs.Chain.{FollowsDigits, IsChain, IsLimit, chain_at, Repeats}
 
 -- N is the root of f^m S at e.
 abbrev pub IsMultipleRoot : Field → Polynomial → List Polynomial → ℕ → ℕ → List Polynomial → Type 0
@@ -140,6 +143,11 @@ module _ {F : Field} (L : IsField F) {f : Polynomial} (A : IsPolynomial F f) whe
         (FollowsDigits-same ds Q (SameIdeal-sym same) R follows, R)
     IsChain-push (second ∷ lists) first last next P chain follows = (chain.0, IsChain-push lists second last next (ArePolynomials-FollowsDigits ds P chain.0) chain.1 follows)
 
+    -- The last ideal is at the last place.
+    IsChain-last : (lists : List (List Polynomial)) (first last start : List Polynomial) → ArePolynomials F first → IsChain F f ds first lists last → SameIdeal F (get_or (first ∷ lists) (length lists) start) last
+    IsChain-last [] first last start P same = same
+    IsChain-last (second ∷ lists) first last start P chain = IsChain-last lists second last start (ArePolynomials-FollowsDigits ds P chain.0) chain.1
+
     pub IsChain-up_to : (lists : List (List Polynomial)) (first last start : List Polynomial) → ArePolynomials F first → IsChain F f ds first lists last → (i : ℕ) → i ≤ length lists
         → IsChain F f ds first (take i lists) (get_or (first ∷ lists) i start)
     IsChain-up_to lists first last start P chain zero h = SameIdeal-refl L P
@@ -151,6 +159,30 @@ module _ {F : Field} (L : IsField F) {f : Polynomial} (A : IsPolynomial F f) whe
     IsChain-step [] first last start chain i h = absurd (omega arith)
     IsChain-step (second ∷ lists) first last start chain zero h = chain.0
     IsChain-step (second ∷ lists) first last start chain (suc i) h = IsChain-step lists second last start chain.1 i (omega arith)
+
+    -- A chain without a repeat goes on without one.
+    pub Repeats-push : (lists : List (List Polynomial)) (first last next : List Polynomial) → ArePolynomials F first → ArePolynomials F next → IsChain F f ds first lists last
+        → (Repeats F (chain_at first lists) (length lists) → ⊥) → (SameIdeal F last next → ⊥) → Repeats F (chain_at first (lists ++ next ∷ [])) (length (lists ++ next ∷ [])) → ⊥
+    Repeats-push lists first last next P Q chain strict apart found = elim (cases_lt found.0 (length lists)) [
+      | inl early ↦ strict (found.0, early, subst (λ M. SameIdeal F M (chain_at first lists (suc found.0))) (before found.0 (omega (arith, early)))
+          (subst (λ M. SameIdeal F (chain_at first (lists ++ next ∷ []) found.0) M) (before (suc found.0) (omega (arith, early))) found.2))
+      | inr late ↦
+          let sum : length (lists ++ next ∷ []) ≡ length lists + 1 = length-append lists (next ∷ []) in
+          let less = found.1 in
+          let place : found.0 ≡ length lists = omega (arith, sum, less, late) in
+          let step : SameIdeal F (chain_at first (lists ++ next ∷ []) (length lists)) (chain_at first (lists ++ next ∷ []) (suc (length lists))) =
+          subst (λ i. SameIdeal F (chain_at first (lists ++ next ∷ []) i) (chain_at first (lists ++ next ∷ []) (suc i))) place found.2 in
+          let from : SameIdeal F (chain_at first lists (length lists)) (chain_at first (lists ++ next ∷ []) (suc (length lists))) =
+          subst (λ M. SameIdeal F M (chain_at first (lists ++ next ∷ []) (suc (length lists)))) (before (length lists) (omega arith)) step in
+          let to : SameIdeal F (chain_at first lists (length lists)) next =
+          subst (SameIdeal F (chain_at first lists (length lists))) (get_or-append_seam (first ∷ lists) next [] first) from in
+          let end = IsChain-last lists first last first P chain in
+          let R = ArePolynomials-IsChain lists P chain in
+          apart (SameIdeal-trans L R (ArePolynomials-Inside R end.forth) Q (SameIdeal-sym end) to)
+    ]
+      where
+        before : (i : ℕ) → i < suc (length lists) → chain_at first (lists ++ next ∷ []) i ≡ chain_at first lists i
+        before i h = get_or_append_left (first ∷ lists) (next ∷ []) first i h
 
     -- A chain is constant from a repeat on.
     repeats_stay_from : {J next : List Polynomial} → ArePolynomials F J → FollowsDigits F f ds J next → SameIdeal F J next

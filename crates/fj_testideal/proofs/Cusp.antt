@@ -1,12 +1,12 @@
 -- The cusp x^2 + y^3 over GF(5) at 4/5.
-use Rattle.std.proofs.Common.{◌≡◌, ℕ, suc, ◌+◌, ◌*◌, ◌%◌, ◌^◌, ◌<◌, List, [], ◌∷◌, map, refl, sym, ap, ap₂, ◌∙◌, subst, arith, lit<}
+use Rattle.std.proofs.Common.{◌≡◌, ℕ, zero, suc, ◌+◌, ◌*◌, ◌%◌, ◌^◌, ◌<◌, List, [], ◌∷◌, map, refl, sym, ap, ap₂, ◌∙◌, subst, arith, lit<}
 use Rattle.std.proofs.lemmas.List.Elements.{All-nil, All-from_recursion}
 use Rattle.std.proofs.lemmas.Nat.Gcd.{IsGcd-from_zero, IsGcd-from_mod}
 use Rattle.fj_coeff.specs.Field.{Field, IsField}
 use Rattle.fj_coeff.specs.Field as field
 use Rattle.fj_coeff.specs.PrimeField.{prime_field}
 use Rattle.fj_theory.specs.Polynomial.{Polynomial, IsPolynomial, sum, product, power, term}
-use Rattle.fj_theory.specs.Ideal.{ArePolynomials, Member, multiples}
+use Rattle.fj_theory.specs.Ideal.{ArePolynomials, Member, SameIdeal, multiples}
 use Rattle.fj_theory.specs.FrobeniusPower.{frobenius_power}
 use Rattle.fj_theory.specs.Fraction.{IsInUnitInterval, ceil_times}
 use Rattle.fj_theory.specs.Digits.{ceiling_less_one, digit, digits, IsExpansion}
@@ -22,11 +22,12 @@ use Rattle.fj_theory.proofs.FrobeniusPower.{ArePolynomials-frobenius_power}
 use Rattle.fj_theory.proofs.Product.{IsPolynomial-product}
 use Rattle.fj_theory.proofs.Root.{IsRoot-SameIdeal_root}
 use Rattle.fj_theory.proofs.RootParts.{IsRoot-frobenius_power, IsRoot-one}
-use Rattle.fj_testideal.specs.Chain.{IsStep, IsLimit}
+use Rattle.fj_testideal.specs.Chain.{IsStep, IsLimit, chain_at}
 use Rattle.fj_testideal.specs.Examples.{xy, cusp, four_fifths, IsCuspOverFive}
 use Rattle.fj_testideal.proofs.TestIdeal.{IsLeftLimit-unique}
 use Rattle.fj_testideal.proofs.Jump.{jump_from_difference}
 use Rattle.fj_testideal.proofs.ChainLimit.{test_ideal-from_digits, left_limit-from_digits}
+use Rattle.fj_testideal.proofs.NumberOfPeriods.{tells_number}
 use Rattle.fj_testideal.proofs.TermSum.{L, at, Item, item, value, IsExponents-at, IsPolynomial-item, IsPolynomial-value, multiply, raise, value-multiply, value-single, value-raise, item_product, ItemPart, part_of, root_of_value}
 
 -- The terms of the cusp.
@@ -196,6 +197,10 @@ expansion = record {
   period = refl;
 }
 
+strict : (i : ℕ) → i < 1 → SameIdeal (prime_field 5) (chain_at unit (yx ∷ []) i) (chain_at unit (yx ∷ []) (suc i)) → ⊥
+strict zero h E = one_outside (Inside-head E.forth)
+strict (suc i) h E = absurd (omega arith)
+
 -- The test ideal and the left limit at 4/5.
 pub cusp_over_five : IsCuspOverFive
 unfolding term origin
@@ -215,6 +220,7 @@ cusp_over_five =
       limit_from_f = limit_from_f;
       digits_from_f = (cusp ∷ [], own, last_from_f);
       limit_from_one = limit_from_one;
+      number_from_one = (tells_number L A (4 ∷ []) (yx ∷ []) yx yx).from_one limit_from_one.chain limit_from_one.follows middle (λ found. strict found.0 found.1 found.2);
       digits_from_one = (yx, middle, last_from_yx);
       test_ideal = test_ideal;
       left_limit = left_limit;

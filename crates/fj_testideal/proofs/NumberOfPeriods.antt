@@ -12,9 +12,8 @@ use Rattle.fj_theory.proofs.Period.{repeated_last}
 use Rattle.fj_theory.proofs.IdealBridge.{ArePolynomials-single, IsPolynomial-one}
 use Rattle.fj_theory.proofs.Ideal.{SameIdeal-sym, SameIdeal-trans}
 use Rattle.fj_theory.proofs.Root.{IsRoot-unique}
-use Rattle.fj_testideal.specs.Chain.{IsChain, chain_at, IsFirstRepeat, IsRisingIdeal, IsFallingIdeal}
+use Rattle.fj_testideal.specs.Chain.{Repeats, IsChain, chain_at, IsFirstRepeat, IsRisingIdeal, IsFallingIdeal}
 use Rattle.fj_testideal.specs.BoundedIdeal.{number_of, occurs_in}
-use Rattle.fj_testideal.specs.LeadLaws.{Repeats}
 use Rattle.fj_testideal.specs.PeriodLaws.{TellsNumberOfPeriods, HasFewPeriods}
 use Rattle.fj_testideal.proofs.PowerRoot.{IsPowerRoot, IsPowerRoot-SameIdeal, power_root, power_root-rises_across, power_root-falls_across}
 use Rattle.fj_testideal.proofs.Chain.{value_of_below, IsChain-up_to, IsChain-push}

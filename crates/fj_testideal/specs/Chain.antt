@@ -1,5 +1,5 @@
 -- Chains of Frobenius roots, one digit of an exponent at a time. They are the project's own way to test ideals.
-use Rattle.std.specs.Prelude.{ℕ, ◌+◌, ◌-◌, ◌*◌, ◌^◌, ◌<◌, ◌≤◌, List, [], ◌∷◌, length, slice_index_or}
+use Rattle.std.specs.Prelude.{ℕ, suc, ◌+◌, ◌-◌, ◌*◌, ◌^◌, ◌<◌, ◌≤◌, List, [], ◌∷◌, length, slice_index_or}
 use Rattle.fj_coeff.specs.Field.{Field}
 use Rattle.fj_theory.specs.Polynomial.{Polynomial, power}
 use Rattle.fj_theory.specs.Ideal.{SameIdeal, multiples}
@@ -32,6 +32,10 @@ pub record IsLimit (F : Field) (f : Polynomial) (period : List ℕ) (first last 
 -- The list at a place of a chain that starts with the first list.
 abbrev pub chain_at : List Polynomial → List (List Polynomial) → ℕ → List Polynomial
 chain_at first lists i = slice_index_or (first ∷ lists) i first
+
+-- The chain repeats: two neighbours among its ideals up to the one at a place are one ideal.
+abbrev pub Repeats : Field → (ℕ → List Polynomial) → ℕ → Type 0
+Repeats F chain last = (i : ℕ) × (i < last) × SameIdeal F (chain i) (chain (suc i))
 
 -- T is where the rising chain of a period, from (f), is after k periods of b digits that write a: with
 -- A = a (1 + p^b + .. + p^((k-1)b)), the root of f^(A+1) at k b.

@@ -8,9 +8,9 @@ use Rattle.fj_theory.specs.Fraction.{Fraction, IsInUnitInterval}
 use Rattle.fj_theory.specs.Digits.{value_of, Expansion, IsExpansion}
 use Rattle.fj_theory.specs.Root.{IsRoot}
 use Rattle.fj_testideal.specs.TestIdeal.{IsTestIdeal, IsLeftLimit}
-use Rattle.fj_testideal.specs.Chain.{FollowsDigits, IsChain, IsLimit, IsRisingIdeal, IsFallingIdeal}
+use Rattle.fj_testideal.specs.Chain.{FollowsDigits, IsChain, IsLimit, chain_at, Repeats, IsRisingIdeal, IsFallingIdeal}
 
--- Steps, chains and limits depend on the ideals alone: each list may be replaced by one that generates the same ideal.
+-- Steps, chains and limits depend on the first and the last ideal alone, and not on the lists that generate them.
 pub record DependsOnIdeals (F : Field) (f : Polynomial) (ds : List ℕ) (J J' N N' : List Polynomial) : Type 0 where
   pub digits : FollowsDigits F f ds J N → FollowsDigits F f ds J' N'
   pub chain : (lists : List (List Polynomial)) → IsChain F f ds J lists N → IsChain F f ds J' lists N'
@@ -27,12 +27,17 @@ DigitsReachRoot =
     (F : Field) → IsField F → (f : Polynomial) → IsPolynomial F f → (ds : List ℕ) (J N : List Polynomial) → ArePolynomials F J
     → FollowsDigits F f ds J N → IsRoot F (F.characteristic ^ length ds) (multiples F (power F f (value_of F.characteristic ds)) J) N
 
--- A chain goes on by one period.
+-- A chain goes on by one period. Where no two neighbours were one ideal, and the last ideal and the next one aren't, no two
+-- neighbours of the longer chain are.
+pub record GoesOn (F : Field) (f : Polynomial) (period : List ℕ) (first : List Polynomial) (lists : List (List Polynomial)) (last next : List Polynomial) : Type 0 where
+  pub chain : IsChain F f period first lists last → FollowsDigits F f period last next → IsChain F f period first (lists ++ next ∷ []) next
+  pub strict : IsChain F f period first lists last → (Repeats F (chain_at first lists) (length lists) → ⊥) → (SameIdeal F last next → ⊥)
+      → Repeats F (chain_at first (lists ++ next ∷ [])) (length (lists ++ next ∷ [])) → ⊥
+
 abbrev pub ChainsGoOn : Type 0
 ChainsGoOn =
     (F : Field) → IsField F → (f : Polynomial) → IsPolynomial F f → (period : List ℕ) (first : List Polynomial) → ArePolynomials F first
-    → (lists : List (List Polynomial)) (last next : List Polynomial) → IsChain F f period first lists last → FollowsDigits F f period last next
-    → IsChain F f period first (lists ++ next ∷ []) next
+    → (lists : List (List Polynomial)) (last next : List Polynomial) → ArePolynomials F next → GoesOn F f period first lists last next
 
 -- After k periods the chain from (f) is at its root at k b, and the chain from (1) at its own.
 pub record IsRootAfterPeriods (F : Field) (f : Polynomial) (period : List ℕ) (lists : List (List Polynomial)) (last : List Polynomial) : Type 0 where

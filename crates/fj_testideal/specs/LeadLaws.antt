@@ -9,7 +9,7 @@ use Rattle.fj_theory.specs.Parts.{Part, IsParts}
 use Rattle.fj_theory.specs.Ideal.{ArePolynomials, Inside, SameIdeal}
 use Rattle.fj_theory.specs.Root.{IsRoot}
 use Rattle.fj_groebner.specs.ReducedBasis.{IsReducedBasis}
-use Rattle.fj_testideal.specs.Chain.{FollowsDigits, IsChain, chain_at}
+use Rattle.fj_testideal.specs.Chain.{FollowsDigits, IsChain, chain_at, Repeats}
 use Rattle.fj_testideal.specs.BoundedIdeal.{Variables, number_of, occurs_in, IsBoundedMonomial, IsBounded, IsBoundedIdeal, IsLeadIn, AreLeads}
 
 -- Nested ideals, both generated in bounded degree, with the same leads of bounded degree are equal.
@@ -61,10 +61,6 @@ pub record IsBoundedChain (F : Field) (vars : Variables) (bound : ℕ) (chain : 
   pub polynomials : (i : ℕ) → i ≤ last → ArePolynomials F (chain i)
   pub bounded : (i : ℕ) → i ≤ last → IsBoundedIdeal F vars bound (chain i)
   pub are_leads : (i : ℕ) → i ≤ last → AreLeads F vars bound (chain i) (leads i)
-
--- The chain repeats: two neighbours among its ideals up to the place are equal.
-abbrev pub Repeats : (F : Field) → (ℕ → List Polynomial) → ℕ → Type 0
-Repeats F chain last = (i : ℕ) × (i < last) × SameIdeal F (chain i) (chain (suc i))
 
 -- A rising chain with more than C(n + D, n) steps repeats.
 abbrev pub RisingChainRepeats : Type 0

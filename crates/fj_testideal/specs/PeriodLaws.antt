@@ -5,9 +5,8 @@ use Rattle.fj_algebra.specs.StrictSteps.{monomial_count}
 use Rattle.fj_theory.specs.Exponents.{origin}
 use Rattle.fj_theory.specs.Polynomial.{Polynomial, IsPolynomial, degree, term}
 use Rattle.fj_theory.specs.Ideal.{ArePolynomials, Inside, SameIdeal}
-use Rattle.fj_testideal.specs.Chain.{FollowsDigits, IsChain, chain_at, IsNumberOfRisingPeriods, IsNumberOfFallingPeriods}
+use Rattle.fj_testideal.specs.Chain.{Repeats, FollowsDigits, IsChain, chain_at, IsNumberOfRisingPeriods, IsNumberOfFallingPeriods}
 use Rattle.fj_testideal.specs.BoundedIdeal.{Variables, number_of, occurs_in, IsBoundedIdeal}
-use Rattle.fj_testideal.specs.LeadLaws.{Repeats}
 
 -- There is one number of periods of the rising chain, and one of the falling chain.
 pub record IsOneNumber (F : Field) (f : Polynomial) (period : List ℕ) (k l : ℕ) : Type 0 where

@@ -9,7 +9,7 @@ pub fn chains_depend_on_ideals()
     ensures { ChainsDependOnIdeals }
 {}
 
-/// A chain goes on by one period.
+/// A chain goes on by one period, and stays without a repeat where the next ideal is another one.
 pub fn chains_go_on()
     ensures { ChainsGoOn }
 {}
