@@ -164,8 +164,12 @@ module _ {F : Field} (L : IsField F) {f : Polynomial} (A : IsPolynomial F f) whe
     pub Repeats-push : (lists : List (List Polynomial)) (first last next : List Polynomial) → ArePolynomials F first → ArePolynomials F next → IsChain F f ds first lists last
         → (Repeats F (chain_at first lists) (length lists) → ⊥) → (SameIdeal F last next → ⊥) → Repeats F (chain_at first (lists ++ next ∷ [])) (length (lists ++ next ∷ [])) → ⊥
     Repeats-push lists first last next P Q chain strict apart found = elim (cases_lt found.0 (length lists)) [
-      | inl early ↦ strict (found.0, early, subst (λ M. SameIdeal F M (chain_at first lists (suc found.0))) (before found.0 (omega (arith, early)))
-          (subst (λ M. SameIdeal F (chain_at first (lists ++ next ∷ []) found.0) M) (before (suc found.0) (omega (arith, early))) found.2))
+      | inl early ↦ strict (
+        found.0,
+        early,
+        subst (λ M. SameIdeal F M (chain_at first lists (suc found.0))) (before found.0 (omega (arith, early)))
+            (subst (λ M. SameIdeal F (chain_at first (lists ++ next ∷ []) found.0) M) (before (suc found.0) (omega (arith, early))) found.2),
+      )
       | inr late ↦
           let sum : length (lists ++ next ∷ []) ≡ length lists + 1 = length-append lists (next ∷ []) in
           let less = found.1 in

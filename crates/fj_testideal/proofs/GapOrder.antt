@@ -1,6 +1,7 @@
 -- The order of the gaps of a rising list, and of its members.
 use Rattle.std.proofs.Common.{◌≡◌, ◌⊎◌, inl, inr, List, [], ◌∷◌, Contains, sym, ap, ◌∙◌, subst, arith}
 use Rattle.std.specs.declared.cmp.Ordering.TheVariants.{Less}
+use Rattle.std.specs.List.{AllByRecursion}
 use Rattle.std.specs.List.Sorted.{IsStrictlySortedBy}
 use Rattle.std.proofs.lemmas.List.Elements.{All-contains, All-from_recursion}
 use Rattle.fj_algebra.proofs.Pairs.{contains_cons, contains_head, contains_tail, contains_nil}
@@ -77,4 +78,14 @@ gap_below s [] v c = absurd (contains_nil v c)
 gap_below s (t ∷ ts) v c = elim (contains_cons t ts v c) [
   | inl e ↦ (record { lower = s; upper = t }, contains_head (record { lower = s; upper = t }) (neighbours t ts), e)
   | inr d ↦ (let found = gap_below t ts v d in (found.0, contains_tail (record { lower = s; upper = t }) (neighbours t ts) found.0 found.1, found.2))
+]
+
+-- The lower end of a gap is below the upper end.
+pub gap_rises : (s : Fraction) (ts : List Fraction) → AllByRecursion (λ t. compare s t ≡ Less) ts → IsStrictlySortedBy compare ts → (gap : Gap) → Contains (neighbours s ts) gap
+    → compare gap.lower gap.upper ≡ Less
+unfolding neighbours IsStrictlySortedBy
+gap_rises s [] below rising gap c = absurd (contains_nil gap c)
+gap_rises s (t ∷ ts) below rising gap c = elim (contains_cons (record { lower = s; upper = t }) (neighbours t ts) gap c) [
+  | inl e ↦ subst (λ g. compare g.lower g.upper ≡ Less) e below.0
+  | inr d ↦ gap_rises t ts rising.0 rising.1 gap d
 ]

@@ -20,6 +20,7 @@ pub mod LeftLimit
 pub mod ConstantInside
 pub mod GapOrder
 pub mod OpenGaps
+pub mod JumpGaps
 pub mod RightLimit
 pub mod Chain
 pub mod PeriodValue

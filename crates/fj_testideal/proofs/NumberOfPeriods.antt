@@ -12,7 +12,7 @@ use Rattle.fj_theory.proofs.Period.{repeated_last}
 use Rattle.fj_theory.proofs.IdealBridge.{ArePolynomials-single, IsPolynomial-one}
 use Rattle.fj_theory.proofs.Ideal.{SameIdeal-sym, SameIdeal-trans}
 use Rattle.fj_theory.proofs.Root.{IsRoot-unique}
-use Rattle.fj_testideal.specs.Chain.{Repeats, IsChain, chain_at, IsFirstRepeat, IsRisingIdeal, IsFallingIdeal}
+use Rattle.fj_testideal.specs.Chain.{Repeats, IsChain, chain_at, IsFirstRepeat, IsRisingAfter, IsFallingAfter}
 use Rattle.fj_testideal.specs.BoundedIdeal.{number_of, occurs_in}
 use Rattle.fj_testideal.specs.PeriodLaws.{TellsNumberOfPeriods, HasFewPeriods}
 use Rattle.fj_testideal.proofs.PowerRoot.{IsPowerRoot, IsPowerRoot-SameIdeal, power_root, power_root-rises_across, power_root-falls_across}
@@ -73,28 +73,28 @@ module _ {F : Field} (L : IsField F) {f : Polynomial} (A : IsPolynomial F f) (pe
   unit : ArePolynomials F (term 1 origin ∷ [])
   unit = ArePolynomials-single (IsPolynomial-one L)
 
-  polynomials_rising : (k : ℕ) (S : List Polynomial) → IsRisingIdeal F f period k S → ArePolynomials F S
+  polynomials_rising : (k : ℕ) (S : List Polynomial) → IsRisingAfter F f period k S → ArePolynomials F S
   polynomials_rising k S R = R.polynomials
 
-  polynomials_falling : (k : ℕ) (S : List Polynomial) → IsFallingIdeal F f period k S → ArePolynomials F S
+  polynomials_falling : (k : ℕ) (S : List Polynomial) → IsFallingAfter F f period k S → ArePolynomials F S
   polynomials_falling k S R = R.polynomials
 
-  unique_rising : (k : ℕ) (S T : List Polynomial) → IsRisingIdeal F f period k S → IsRisingIdeal F f period k T → SameIdeal F S T
+  unique_rising : (k : ℕ) (S T : List Polynomial) → IsRisingAfter F f period k S → IsRisingAfter F f period k T → SameIdeal F S T
   unique_rising k S T Q R = IsRoot-unique Q R
 
-  unique_falling : (k : ℕ) (S T : List Polynomial) → IsFallingIdeal F f period k S → IsFallingIdeal F f period k T → SameIdeal F S T
+  unique_falling : (k : ℕ) (S T : List Polynomial) → IsFallingAfter F f period k S → IsFallingAfter F f period k T → SameIdeal F S T
   unique_falling k S T Q R = IsRoot-unique Q R
 
   module _ (lists : List (List Polynomial)) (last : List Polynomial) where
     -- Each ideal of the chains is at its root.
-    rising_at : IsChain F f period (f ∷ []) lists last → (i : ℕ) → i ≤ length lists → IsRisingIdeal F f period i (chain_at (f ∷ []) lists i)
+    rising_at : IsChain F f period (f ∷ []) lists last → (i : ℕ) → i ≤ length lists → IsRisingAfter F f period i (chain_at (f ∷ []) lists i)
     rising_at chain i h =
-        subst (λ k. IsRisingIdeal F f period k (chain_at (f ∷ []) lists i)) (length-take-le i lists h)
+        subst (λ k. IsRisingAfter F f period k (chain_at (f ∷ []) lists i)) (length-take-le i lists h)
         (chain_root_from_f L A period (take i lists) (IsChain-up_to L A period lists (f ∷ []) last (f ∷ []) own chain i h))
 
-    falling_at : IsChain F f period (term 1 origin ∷ []) lists last → (i : ℕ) → i ≤ length lists → IsFallingIdeal F f period i (chain_at (term 1 origin ∷ []) lists i)
+    falling_at : IsChain F f period (term 1 origin ∷ []) lists last → (i : ℕ) → i ≤ length lists → IsFallingAfter F f period i (chain_at (term 1 origin ∷ []) lists i)
     falling_at chain i h =
-        subst (λ k. IsFallingIdeal F f period k (chain_at (term 1 origin ∷ []) lists i)) (length-take-le i lists h)
+        subst (λ k. IsFallingAfter F f period k (chain_at (term 1 origin ∷ []) lists i)) (length-take-le i lists h)
         (chain_root_from_one L A period (take i lists) (IsChain-up_to L A period lists (term 1 origin ∷ []) last (term 1 origin ∷ []) unit chain i h))
 
   -- The length of a chain with one period more.
@@ -105,20 +105,20 @@ module _ {F : Field} (L : IsField F) {f : Polynomial} (A : IsPolynomial F f) (pe
   tells_number lists last next = record {
     from_f = λ chain follows same strict.
         let before = chain_root_from_f L A period lists chain in
-        let after = subst (λ k. IsRisingIdeal F f period k next) (longer lists next)
+        let after = subst (λ k. IsRisingAfter F f period k next) (longer lists next)
         (chain_root_from_f L A period (lists ++ next ∷ []) (IsChain-push L A period lists (f ∷ []) last next own chain follows)) in
-        tells L (IsRisingIdeal F f period) polynomials_rising unique_rising (chain_at (f ∷ []) lists) (length lists) (rising_at lists last chain) last before
+        tells L (IsRisingAfter F f period) polynomials_rising unique_rising (chain_at (f ∷ []) lists) (length lists) (rising_at lists last chain) last before
         (IsPowerRoot-SameIdeal L A (suc (length lists) * length period) _ after before.polynomials (SameIdeal-sym same)) strict;
     from_one = λ chain follows same strict.
         let before = chain_root_from_one L A period lists chain in
-        let after = subst (λ k. IsFallingIdeal F f period k next) (longer lists next)
+        let after = subst (λ k. IsFallingAfter F f period k next) (longer lists next)
         (chain_root_from_one L A period (lists ++ next ∷ []) (IsChain-push L A period lists (term 1 origin ∷ []) last next unit chain follows)) in
-        tells L (IsFallingIdeal F f period) polynomials_falling unique_falling (chain_at (term 1 origin ∷ []) lists) (length lists) (falling_at lists last chain) last before
+        tells L (IsFallingAfter F f period) polynomials_falling unique_falling (chain_at (term 1 origin ∷ []) lists) (length lists) (falling_at lists last chain) last before
         (IsPowerRoot-SameIdeal L A (suc (length lists) * length period) _ after before.polynomials (SameIdeal-sym same)) strict;
   }
 
   module _ {d : ℕ} (of_degree : degree f ≡ Some d) (below : All (λ a. a < F.characteristic) period) where
-    rises : (k : ℕ) {S T : List Polynomial} → IsRisingIdeal F f period k S → IsRisingIdeal F f period (suc k) T → Inside F S T
+    rises : (k : ℕ) {S T : List Polynomial} → IsRisingAfter F f period k S → IsRisingAfter F f period (suc k) T → Inside F S T
     rises k {T = T} R S =
         let b = length period in
         let a = value_of F.characteristic period in
@@ -127,7 +127,7 @@ module _ {F : Field} (L : IsField F) {f : Polynomial} (A : IsPolynomial F f) (pe
         (subst (λ e. IsPowerRoot F f e (repeated_value (F.characteristic ^ b) a (suc k) + 1) T) place S)
         (omega (arith, repeated_last (F.characteristic ^ b) a k, value_of_below F.characteristic period below))
 
-    falls : (k : ℕ) {S T : List Polynomial} → IsFallingIdeal F f period k S → IsFallingIdeal F f period (suc k) T → Inside F T S
+    falls : (k : ℕ) {S T : List Polynomial} → IsFallingAfter F f period k S → IsFallingAfter F f period (suc k) T → Inside F T S
     falls k {T = T} R S =
         let b = length period in
         let a = value_of F.characteristic period in
@@ -136,7 +136,7 @@ module _ {F : Field} (L : IsField F) {f : Polynomial} (A : IsPolynomial F f) (pe
         (subst (λ e. IsPowerRoot F f e (repeated_value (F.characteristic ^ b) a (suc k)) T) place S)
         (omega (arith, repeated_last (F.characteristic ^ b) a k))
 
-    few_rising : (chain : ℕ → List Polynomial) (last : ℕ) → ((i : ℕ) → i ≤ last → IsRisingIdeal F f period i (chain i)) → (Repeats F chain last → ⊥)
+    few_rising : (chain : ℕ → List Polynomial) (last : ℕ) → ((i : ℕ) → i ≤ last → IsRisingAfter F f period i (chain i)) → (Repeats F chain last → ⊥)
         → last ≤ monomial_count (number_of (occurs_in f)) d
     few_rising chain last are strict = (strict_chain-short L {vars = occurs_in f} {bound = d} {chain = chain} last (record {
       polynomials = λ i h. (are i h).polynomials;
@@ -144,7 +144,7 @@ module _ {F : Field} (L : IsField F) {f : Polynomial} (A : IsPolynomial F f) (pe
       strict = strict;
     })).rising (λ i h. rises i (are i (omega arith)) (are (suc i) h))
 
-    few_falling : (chain : ℕ → List Polynomial) (last : ℕ) → ((i : ℕ) → i ≤ last → IsFallingIdeal F f period i (chain i)) → (Repeats F chain last → ⊥)
+    few_falling : (chain : ℕ → List Polynomial) (last : ℕ) → ((i : ℕ) → i ≤ last → IsFallingAfter F f period i (chain i)) → (Repeats F chain last → ⊥)
         → last ≤ monomial_count (number_of (occurs_in f)) d
     few_falling chain last are strict = (strict_chain-short L {vars = occurs_in f} {bound = d} {chain = chain} last (record {
       polynomials = λ i h. (are i h).polynomials;
@@ -161,7 +161,7 @@ module _ {F : Field} (L : IsField F) {f : Polynomial} (A : IsPolynomial F f) (pe
           let number : ℕ → ℕ = λ i. repeated_value (F.characteristic ^ b) (value_of F.characteristic period) i + 1 in
           let root : (i : ℕ) → (T : List Polynomial) × IsPowerRoot F f (i * b) (number i) T = λ i. power_root L A (i * b) (number i) in
           let few = few_rising (λ i. (root i).0) (k - 1) (λ i h. (root i).1)
-          (strict_before L (IsRisingIdeal F f period) polynomials_rising unique_rising (λ i. (root i).0) (k - 1) k K (λ i. (root i).1)
+          (strict_before L (IsRisingAfter F f period) polynomials_rising unique_rising (λ i. (root i).0) (k - 1) k K (λ i. (root i).1)
           (λ i S T R P E. IsPowerRoot-SameIdeal L A (i * b) (number i) R P E)) in
           omega (arith, few);
       falling = λ k K.
@@ -169,7 +169,7 @@ module _ {F : Field} (L : IsField F) {f : Polynomial} (A : IsPolynomial F f) (pe
           let number : ℕ → ℕ = λ i. repeated_value (F.characteristic ^ b) (value_of F.characteristic period) i in
           let root : (i : ℕ) → (T : List Polynomial) × IsPowerRoot F f (i * b) (number i) T = λ i. power_root L A (i * b) (number i) in
           let few = few_falling (λ i. (root i).0) (k - 1) (λ i h. (root i).1)
-          (strict_before L (IsFallingIdeal F f period) polynomials_falling unique_falling (λ i. (root i).0) (k - 1) k K (λ i. (root i).1)
+          (strict_before L (IsFallingAfter F f period) polynomials_falling unique_falling (λ i. (root i).0) (k - 1) k K (λ i. (root i).1)
           (λ i S T R P E. IsPowerRoot-SameIdeal L A (i * b) (number i) R P E)) in
           omega (arith, few);
     }

@@ -113,12 +113,12 @@ module _ {F : Field} (L : IsField F) where
     lowest_digit_comes_first =
         let limit : IsTestIdeal F (x 5) third (x 1 ∷ []) = test_ideal-monomial L (IsExponents-x 5) third in
         let rising : IsLimit F (x 5) (0 ∷ 1 ∷ []) (x 5 ∷ []) (x 1 ∷ []) = record {
-            lists = (x 2 ∷ []) ∷ (x 1 ∷ []) ∷ [];
-            chain = ((x 5 ∷ [], (x 5 ∷ [], same 5, step_x 5 1 5 5 refl), step_x 5 0 5 2 refl), ((x 3 ∷ [], (x 2 ∷ [], same 2, step_x 5 1 2 3 refl), step_x 5 0 3 1 refl), same 1));
-            next = x 1 ∷ [];
-            follows = (x 3 ∷ [], (x 1 ∷ [], same 1, step_x 5 1 1 3 refl), step_x 5 0 3 1 refl);
-            repeats = same 1;
-          } in
+          lists = (x 2 ∷ []) ∷ (x 1 ∷ []) ∷ [];
+          chain = ((x 5 ∷ [], (x 5 ∷ [], same 5, step_x 5 1 5 5 refl), step_x 5 0 5 2 refl), ((x 3 ∷ [], (x 2 ∷ [], same 2, step_x 5 1 2 3 refl), step_x 5 0 3 1 refl), same 1));
+          next = x 1 ∷ [];
+          follows = (x 3 ∷ [], (x 1 ∷ [], same 1, step_x 5 1 1 3 refl), step_x 5 0 3 1 refl);
+          repeats = same 1;
+        } in
         record {
           digits_of_third = ap (λ p. digits p third 0 2) two;
           limit = rising;

@@ -39,28 +39,28 @@ Repeats F chain last = (i : ℕ) × (i < last) × SameIdeal F (chain i) (chain (
 
 -- T is where the rising chain of a period, from (f), is after k periods of b digits that write a: with
 -- A = a (1 + p^b + .. + p^((k-1)b)), the root of f^(A+1) at k b.
-abbrev pub IsRisingIdeal : Field → Polynomial → List ℕ → ℕ → List Polynomial → Type 0
-IsRisingIdeal F f period k T =
+abbrev pub IsRisingAfter : Field → Polynomial → List ℕ → ℕ → List Polynomial → Type 0
+IsRisingAfter F f period k T =
     IsRoot F (F.characteristic ^ (k * length period))
     (power F f (repeated_value (F.characteristic ^ length period) (value_of F.characteristic period) k + 1) ∷ []) T
 
 -- T is where the falling chain, from (1), is after k periods: the root of f^A at k b.
-abbrev pub IsFallingIdeal : Field → Polynomial → List ℕ → ℕ → List Polynomial → Type 0
-IsFallingIdeal F f period k T =
+abbrev pub IsFallingAfter : Field → Polynomial → List ℕ → ℕ → List Polynomial → Type 0
+IsFallingAfter F f period k T =
     IsRoot F (F.characteristic ^ (k * length period))
     (power F f (repeated_value (F.characteristic ^ length period) (value_of F.characteristic period) k) ∷ []) T
 
 -- k is the least k >= 1 for which one list is where the chain is after k and after k - 1 periods.
-pub record IsFirstRepeat (IsIdeal : ℕ → List Polynomial → Type 0) (k : ℕ) : Type 0 where
+pub record IsFirstRepeat (IsAfter : ℕ → List Polynomial → Type 0) (k : ℕ) : Type 0 where
   pub positive : 0 < k
   pub ideal : List Polynomial
-  pub before : IsIdeal (k - 1) ideal
-  pub after : IsIdeal k ideal
-  pub least : (j : ℕ) (T : List Polynomial) → 0 < j → IsIdeal (j - 1) T → IsIdeal j T → k ≤ j
+  pub before : IsAfter (k - 1) ideal
+  pub after : IsAfter k ideal
+  pub least : (j : ℕ) (T : List Polynomial) → 0 < j → IsAfter (j - 1) T → IsAfter j T → k ≤ j
 
 -- The number of periods of the rising chain, and of the falling one: the repeating period is counted too.
 abbrev pub IsNumberOfRisingPeriods : Field → Polynomial → List ℕ → ℕ → Type 0
-IsNumberOfRisingPeriods F f period k = IsFirstRepeat (IsRisingIdeal F f period) k
+IsNumberOfRisingPeriods F f period k = IsFirstRepeat (IsRisingAfter F f period) k
 
 abbrev pub IsNumberOfFallingPeriods : Field → Polynomial → List ℕ → ℕ → Type 0
-IsNumberOfFallingPeriods F f period k = IsFirstRepeat (IsFallingIdeal F f period) k
+IsNumberOfFallingPeriods F f period k = IsFirstRepeat (IsFallingAfter F f period) k

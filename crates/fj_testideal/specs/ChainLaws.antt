@@ -8,7 +8,7 @@ use Rattle.fj_theory.specs.Fraction.{Fraction, IsInUnitInterval}
 use Rattle.fj_theory.specs.Digits.{value_of, Expansion, IsExpansion}
 use Rattle.fj_theory.specs.Root.{IsRoot}
 use Rattle.fj_testideal.specs.TestIdeal.{IsTestIdeal, IsLeftLimit}
-use Rattle.fj_testideal.specs.Chain.{FollowsDigits, IsChain, IsLimit, chain_at, Repeats, IsRisingIdeal, IsFallingIdeal}
+use Rattle.fj_testideal.specs.Chain.{FollowsDigits, IsChain, IsLimit, chain_at, Repeats, IsRisingAfter, IsFallingAfter}
 
 -- Steps, chains and limits depend on the first and the last ideal alone, and not on the lists that generate them.
 pub record DependsOnIdeals (F : Field) (f : Polynomial) (ds : List ℕ) (J J' N N' : List Polynomial) : Type 0 where
@@ -41,8 +41,8 @@ ChainsGoOn =
 
 -- After k periods the chain from (f) is at its root at k b, and the chain from (1) at its own.
 pub record IsRootAfterPeriods (F : Field) (f : Polynomial) (period : List ℕ) (lists : List (List Polynomial)) (last : List Polynomial) : Type 0 where
-  pub from_f : IsChain F f period (f ∷ []) lists last → IsRisingIdeal F f period (length lists) last
-  pub from_one : IsChain F f period (term 1 origin ∷ []) lists last → IsFallingIdeal F f period (length lists) last
+  pub from_f : IsChain F f period (f ∷ []) lists last → IsRisingAfter F f period (length lists) last
+  pub from_one : IsChain F f period (term 1 origin ∷ []) lists last → IsFallingAfter F f period (length lists) last
 
 abbrev pub ChainsAreRoots : Type 0
 ChainsAreRoots =

@@ -5,7 +5,7 @@ use Rattle.fj_coeff.specs.Field.{Field}
 use Rattle.fj_theory.specs.Polynomial.{Polynomial, power}
 use Rattle.fj_theory.specs.Fraction.{Fraction, compare}
 use Rattle.fj_theory.specs.Root.{IsRoot}
-use Rattle.fj_testideal.specs.TestIdeal.{IsTestIdeal}
+use Rattle.fj_testideal.specs.TestIdeal.{IsTestIdeal, IsLeftLimit}
 
 -- t > 0 is an F-jumping number of f: some T is tau(f^t), and T is tau(f^s) for no s below t.
 pub record IsJump (F : Field) (f : Polynomial) (t : Fraction) : Type 0 where
@@ -31,3 +31,9 @@ pub record HoldsChange (F : Field) (f : Polynomial) (s t : Fraction) (S : List P
   pub m : ℕ
   pub between : IsBetween s t m (F.characteristic ^ e)
   pub differs : IsRoot F (F.characteristic ^ e) (power F f m ∷ []) S → ⊥
+
+-- The test ideal doesn't change at t > 0: one list is tau(f^t) and the left limit at t.
+pub record IsUnchangedAt (F : Field) (f : Polynomial) (t : Fraction) : Type 0 where
+  pub ideal : List Polynomial
+  pub is_test_ideal : IsTestIdeal F f t ideal
+  pub is_left_limit : IsLeftLimit F f t ideal

@@ -6,7 +6,7 @@ use Rattle.fj_theory.specs.Polynomial.{Polynomial}
 use Rattle.fj_theory.specs.Fraction.{Fraction, SameValue, compare}
 use Rattle.fj_theory.specs.Candidates.{IsCandidate, AreCandidates, Gap, gaps}
 use Rattle.fj_testideal.specs.TestIdeal.{IsTestIdeal}
-use Rattle.fj_testideal.specs.Jump.{IsJump, IsConstant, HoldsChange}
+use Rattle.fj_testideal.specs.Jump.{IsJump, IsConstant, HoldsChange, IsUnchangedAt}
 
 -- A fraction, and a list of polynomials that is the test ideal there.
 pub record Jump : Type 0 where
@@ -19,10 +19,11 @@ pub record IsListedJump (F : Field) (f : Polynomial) (E : ℕ) (jump : Jump) : T
   pub is_jump : IsJump F f jump.at
   pub is_test_ideal : IsTestIdeal F f jump.at jump.ideal
 
--- The jumps of E: the members of C_E that are F-jumping numbers of f, each once, rising, each with its test ideal.
+-- The jumps of E, rising: the members of C_E that are F-jumping numbers of f, each once, each with its test ideal. At each
+-- other member of C_E the test ideal doesn't change.
 pub record AreJumps (F : Field) (f : Polynomial) (E : ℕ) (jumps : List Jump) : Type 0 where
   pub sound : All (IsListedJump F f E) jumps
-  pub complete : (t : Fraction) → IsCandidate F.characteristic E t → IsJump F f t → Any (λ jump. SameValue t jump.at) jumps
+  pub listed_or_unchanged : (t : Fraction) → IsCandidate F.characteristic E t → Any (λ jump. SameValue t jump.at) jumps ⊎ IsUnchangedAt F f t
   pub rising : IsStrictlySortedBy compare (map (λ jump. jump.at) jumps)
 
 -- The gap is open: tau isn't constant on [s, t), s and t its ends.

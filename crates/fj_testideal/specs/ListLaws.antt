@@ -1,11 +1,17 @@
 -- Laws of the list of jumps for E, which the law functions prove.
-use Rattle.std.specs.Prelude.{◌↔◌, ◌⊎◌, ℕ, ◌≤◌, List, All, Any, Contains}
+use Rattle.std.specs.Prelude.{◌↔◌, ◌⊎◌, ℕ, ◌≤◌, List, All, Any, map, Contains}
 use Rattle.fj_coeff.specs.Field.{Field, IsField}
 use Rattle.fj_theory.specs.Polynomial.{Polynomial, IsPolynomial}
 use Rattle.fj_theory.specs.Fraction.{Fraction, SameValue, IsInUnitInterval}
-use Rattle.fj_theory.specs.Candidates.{AreCandidates, Gap, gaps, IsInside}
+use Rattle.fj_theory.specs.Candidates.{IsCandidate, AreCandidates, Gap, gaps, IsInside}
 use Rattle.fj_testideal.specs.Jump.{IsJump, IsConstant}
 use Rattle.fj_testideal.specs.JumpList.{Jump, AreJumps, IsOpen, AreOpenGaps, IsComplete}
+
+-- A member of C_E is an F-jumping number exactly where it is in the list for E.
+abbrev pub ListedAreJumps : Type 0
+ListedAreJumps =
+    (F : Field) → IsField F → (f : Polynomial) → IsPolynomial F f → (E : ℕ) (jumps : List Jump) → AreJumps F f E jumps
+    → (t : Fraction) → IsCandidate F.characteristic E t → IsJump F f t ↔ Any (λ jump. SameValue t jump.at) jumps
 
 -- The open gaps are those on which tau isn't constant: each gap of the list is open, and each gap of C_E that is open is in it.
 abbrev pub OpenGapsAreOpen : Type 0
@@ -33,3 +39,9 @@ CompleteListsLeaveNoChange =
     (F : Field) → IsField F → (f : Polynomial) → IsPolynomial F f → (E : ℕ) → 1 ≤ E → IsComplete F f E
     → (candidates : List Fraction) → AreCandidates F.characteristic E candidates → (gap : Gap) → Contains (gaps candidates) gap
     → IsConstant F f gap.lower gap.upper
+
+-- So tau is constant between neighbours in 0 and the F-jumping numbers of a complete list.
+abbrev pub CompleteListsAreConstantBetween : Type 0
+CompleteListsAreConstantBetween =
+    (F : Field) → IsField F → (f : Polynomial) → IsPolynomial F f → (E : ℕ) → 1 ≤ E → (jumps : List Jump) → AreJumps F f E jumps → IsComplete F f E
+    → (gap : Gap) → Contains (gaps (map (λ jump. jump.at) jumps)) gap → IsConstant F f gap.lower gap.upper
