@@ -26,8 +26,9 @@ use Rattle.fj_theory.proofs.PolynomialRing.{PolynomialOver}
 use Rattle.fj_theory.proofs.OrderedPolynomials.{Exponents, polynomials, ordered_polynomials}
 use Rattle.fj_theory.proofs.IdealBridge.{in_ring}
 use Rattle.fj_groebner.proofs.ReducedBasis.{IsReducible-from_LeadDivides, IsReducedBasis_polynomials, monic_nonzero}
+use Rattle.fj_testideal.specs.Chain.{Repeats}
 use Rattle.fj_testideal.specs.BoundedIdeal.{Variables, number_of, IsBoundedMonomial, IsBoundedIdeal, IsLeadIn, AreLeads}
-use Rattle.fj_testideal.specs.LeadLaws.{IsBoundedChain, Repeats}
+use Rattle.fj_testideal.specs.LeadLaws.{IsBoundedChain}
 use Rattle.fj_testideal.proofs.Counting.{at_most_as_many, fewer}
 use Rattle.fj_testideal.proofs.LeadSteps.{LeadOfMember}
 use Rattle.fj_testideal.proofs.MonomialList.{monomials_up_to, length-monomials_up_to, bounded-monomials_up_to, contains-monomials_up_to, distinct-monomials_up_to}

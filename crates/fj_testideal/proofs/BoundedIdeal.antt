@@ -26,10 +26,10 @@ module _ {F : Field} (L : IsField F) where
   P = ordered_polynomials L grevlex_key-IsMonomialOrder
 
   module _ (vars : Variables) (bound : ℕ) where
-    abbrev Small : Exponents → Type 0
+    abbrev pub Small : Exponents → Type 0
     Small = steps.IsBounded (InVariables vars) (λ a. total a.list) bound
 
-    supported : {f : PolynomialOver F} → IsBounded F vars bound f.map → abstract.Supported (polynomials L) Small f
+    pub supported : {f : PolynomialOver F} → IsBounded F vars bound f.map → abstract.Supported (polynomials L) Small f
     unfolding polynomials
     supported {f} h = record {
       within = λ a n.

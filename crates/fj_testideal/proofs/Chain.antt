@@ -1,21 +1,26 @@
 -- Chains of roots, one digit at a time: what they reach, that they rise or fall, and that a repeat is for good.
-use Rattle.std.proofs.Common.{◌≡◌, ℕ, zero, suc, ◌+◌, ◌*◌, ◌^◌, ◌<◌, ◌≤◌, List, [], ◌∷◌, length, All, refl, sym, ap, ap₂, ◌∙◌, subst, arith}
-use Rattle.std.proofs.Math.Nat.{pow-zero, pow-suc, mul-le-mul_left}
+use Rattle.std.proofs.Common.{◌≡◌, ℕ, zero, suc, ◌+◌, ◌*◌, ◌^◌, ◌<◌, ◌≤◌, List, [], ◌∷◌, ◌++◌, length, length-append, take, get_or, All, Any, Contains, inl, inr, refl, sym, ap, ap₂, ◌∙◌, subst, arith}
+use Rattle.std.proofs.Math.Nat.{pow-zero, pow-suc, one-le-pow, mul-le-mul_left}
+use Rattle.std.proofs.Math.Seq.{get_or-append_seam}
+use Rattle.std.proofs.lemmas.Bool.{cases_lt}
+use Rattle.std.proofs.lemmas.List.{get_or_append_left}
 use Rattle.std.proofs.lemmas.Nat.{pow-add}
-use Rattle.std.proofs.lemmas.List.Elements.{All-head, All-tail}
+use Rattle.std.proofs.lemmas.List.Elements.{All-head, All-tail, All-weaker}
 use Rattle.fj_coeff.specs.Field.{Field, IsField}
+use Rattle.fj_algebra.proofs.Lists.{Any-element}
+use Rattle.fj_algebra.proofs.Pairs.{contains_cons, contains_nil}
 use Rattle.fj_theory.specs.Exponents.{origin}
 use Rattle.fj_theory.specs.Polynomial.{Polynomial, IsPolynomial, power, product, term}
-use Rattle.fj_theory.specs.Ideal.{ArePolynomials, SameIdeal, multiples}
+use Rattle.fj_theory.specs.Ideal.{ArePolynomials, Member, Inside, SameIdeal, multiples}
 use Rattle.fj_theory.specs.Root.{IsRoot}
 use Rattle.fj_theory.specs.Digits.{value_of, repeated_value}
-use Rattle.fj_theory.proofs.Digits.{value_of-cons}
-use Rattle.fj_theory.proofs.IdealBridge.{ArePolynomials-head, ArePolynomials-tail, IsPolynomial-one}
+use Rattle.fj_theory.proofs.Digits.{product_positive, value_of-cons}
+use Rattle.fj_theory.proofs.IdealBridge.{ArePolynomials-head, ArePolynomials-tail, IsPolynomial-one, Member_polynomial}
 use Rattle.fj_theory.proofs.Ideal.{ArePolynomials-multiples, SameIdeal-sym, SameIdeal-trans, SameIdeal-refl, SameIdeal-multiples}
 use Rattle.fj_theory.proofs.PolynomialRing.{IsPolynomial-power, product_comm, product_one, power_zero, power_first, power_add}
 use Rattle.fj_theory.proofs.Root.{IsRoot-1, IsRoot-unique, IsRoot-SameIdeal, IsRoot-SameIdeal_root}
 use Rattle.fj_theory.proofs.RootParts.{IsRoot-digit}
-use Rattle.fj_testideal.specs.Chain.{FollowsDigits, IsChain, IsLimit}
+use Rattle.fj_testideal.specs.Chain.{FollowsDigits, IsChain, IsLimit, chain_at, Repeats}
 
 -- N is the root of f^m S at e.
 abbrev pub IsMultipleRoot : Field → Polynomial → List Polynomial → ℕ → ℕ → List Polynomial → Type 0
@@ -38,6 +43,17 @@ value_of_below p (d ∷ ds) below =
     let product : p ^ length ds * (d + 1) ≤ p ^ length ds * p = mul-le-mul_left (p ^ length ds) (omega arith) in
     omega (arith, value_of-cons p d ds, pow-suc p (length ds))
 
+-- A nonzero digit gives a nonzero number.
+nonzero_digit : (p : ℕ) → 0 < p → (ds : List ℕ) (d : ℕ) → Contains ds d → 0 < d → 0 < value_of p ds
+nonzero_digit p positive [] d c some = absurd (contains_nil d c)
+nonzero_digit p positive (e ∷ ds) d c some = elim (contains_cons e ds d c) [
+  | inl same ↦ (let product = product_positive e (p ^ length ds) (omega (arith, same, some)) (one-le-pow (length ds) p positive) in omega (arith, product, value_of-cons p e ds))
+  | inr later ↦ omega (arith, nonzero_digit p positive ds d later some, value_of-cons p e ds)
+]
+
+pub value_of-positive : (p : ℕ) → 0 < p → (ds : List ℕ) → Any (λ d. 0 < d) ds → 0 < value_of p ds
+value_of-positive p positive ds some = let found = Any-element (λ d. 0 < d) ds some in nonzero_digit p positive ds found.0 found.1 found.2
+
 module _ {F : Field} (L : IsField F) {f : Polynomial} (A : IsPolynomial F f) where
   multiples-one : (S : List Polynomial) → ArePolynomials F S → multiples F (term 1 origin) S ≡ S
   multiples-one [] P = refl
@@ -51,11 +67,20 @@ module _ {F : Field} (L : IsField F) {f : Polynomial} (A : IsPolynomial F f) whe
       subst (λ q. IsRoot F q (multiples F (power F f 0) S) S) (sym (pow-zero F.characteristic))
       (subst (λ M. IsRoot F 1 M S) (sym (ap (λ g. multiples F g S) (power_zero L A) ∙ multiples-one S P)) (IsRoot-1 L P))
 
+  -- What generates an ideal inside an ideal of polynomials is a list of polynomials.
+  pub ArePolynomials-Inside : {M N : List Polynomial} → ArePolynomials F M → Inside F N M → ArePolynomials F N
+  ArePolynomials-Inside {M} {N} P I = record { each = All-weaker (Member F M) (IsPolynomial F) (λ g H. Member_polynomial L P H) N I.each }
+
+  -- A root of multiples depends on the ideal alone.
+  IsMultipleRoot-SameIdeal : {S N N' : List Polynomial} → ArePolynomials F S → (e m : ℕ) → IsMultipleRoot F f S e m N → SameIdeal F N N' → IsMultipleRoot F f S e m N'
+  IsMultipleRoot-SameIdeal P e m R E =
+      IsRoot-SameIdeal_root L e (ArePolynomials-multiples L (IsPolynomial-power L A m) P) R (ArePolynomials-Inside R.polynomials E.back) E
+
   -- The steps for the digits of a number a reach the root of f^a J.
   pub FollowsDigits-root : (ds : List ℕ) {J N : List Polynomial} → ArePolynomials F J → FollowsDigits F f ds J N
       → IsMultipleRoot F f J (length ds) (value_of F.characteristic ds) N
   unfolding value_of
-  FollowsDigits-root [] {J} P same = subst (IsMultipleRoot F f J 0 0) same (IsMultipleRoot-zero P)
+  FollowsDigits-root [] {J} P same = IsMultipleRoot-SameIdeal P 0 0 (IsMultipleRoot-zero P) same
   FollowsDigits-root (d ∷ ds) {J} {N} P follows =
       let p = F.characteristic in
       let n = length ds in
@@ -76,11 +101,97 @@ module _ {F : Field} (L : IsField F) {f : Polynomial} (A : IsPolynomial F f) whe
       (IsRoot-SameIdeal L (ArePolynomials-multiples L B P) (ArePolynomials-multiples L B P') (SameIdeal-multiples L B P P' E) (FollowsDigits-root ds P follows))
       (FollowsDigits-root ds P' follows')
 
+  -- Steps depend on the ideals alone.
+  pub FollowsDigits-same : (ds : List ℕ) {J J' N N' : List Polynomial} → ArePolynomials F J → SameIdeal F J J' → SameIdeal F N N' → FollowsDigits F f ds J N → FollowsDigits F f ds J' N'
+  FollowsDigits-same [] P E E' same =
+      let Q = ArePolynomials-Inside P E.back in
+      let R = ArePolynomials-Inside P same.back in
+      SameIdeal-trans L Q P (ArePolynomials-Inside R E'.back) (SameIdeal-sym E) (SameIdeal-trans L P R (ArePolynomials-Inside R E'.back) same E')
+  FollowsDigits-same (d ∷ ds) P E E' follows =
+      let R = ArePolynomials-FollowsDigits ds P follows.1 in
+      (follows.0, FollowsDigits-same ds P E (SameIdeal-refl L R) follows.1, IsRoot-SameIdeal_root L 1 (ArePolynomials-multiples L (IsPolynomial-power L A d) R) follows.2 (ArePolynomials-Inside follows.2.polynomials E'.back) E')
+
   module _ (ds : List ℕ) where
+    pub ArePolynomials-IsChain : (lists : List (List Polynomial)) {first last : List Polynomial} → ArePolynomials F first → IsChain F f ds first lists last → ArePolynomials F last
+    ArePolynomials-IsChain [] P same = ArePolynomials-Inside P same.back
+    ArePolynomials-IsChain (next ∷ lists) P chain = ArePolynomials-IsChain lists (ArePolynomials-FollowsDigits ds P chain.0) chain.1
+
+    pub IsChain-same : (lists : List (List Polynomial)) {J J' N N' : List Polynomial} → ArePolynomials F J → SameIdeal F J J' → SameIdeal F N N' → IsChain F f ds J lists N → IsChain F f ds J' lists N'
+    IsChain-same [] P E E' same = FollowsDigits-same [] P E E' same
+    IsChain-same (next ∷ lists) P E E' chain =
+        let R = ArePolynomials-FollowsDigits ds P chain.0 in
+        (FollowsDigits-same ds P E (SameIdeal-refl L R) chain.0, IsChain-same lists R (SameIdeal-refl L R) E' chain.1)
+
+    pub IsLimit-same : {J J' N N' : List Polynomial} → ArePolynomials F J → SameIdeal F J J' → SameIdeal F N N' → IsLimit F f ds J N → IsLimit F f ds J' N'
+    IsLimit-same P E E' limit =
+        let Q = ArePolynomials-IsChain limit.lists P limit.chain in
+        let R = ArePolynomials-FollowsDigits ds Q limit.follows in
+        record {
+          lists = limit.lists;
+          chain = IsChain-same limit.lists P E E' limit.chain;
+          next = limit.next;
+          follows = FollowsDigits-same ds Q E' (SameIdeal-refl L R) limit.follows;
+          repeats = SameIdeal-trans L (ArePolynomials-Inside Q E'.back) Q R (SameIdeal-sym E') limit.repeats;
+        }
+
+    -- A chain up to a place, the step from it, and a chain with one period more.
+    pub IsChain-push : (lists : List (List Polynomial)) (first last next : List Polynomial) → ArePolynomials F first → IsChain F f ds first lists last → FollowsDigits F f ds last next
+        → IsChain F f ds first (lists ++ next ∷ []) next
+    IsChain-push [] first last next P same follows =
+        let Q = ArePolynomials-Inside P same.back in
+        let R = SameIdeal-refl L (ArePolynomials-FollowsDigits ds Q follows) in
+        (FollowsDigits-same ds Q (SameIdeal-sym same) R follows, R)
+    IsChain-push (second ∷ lists) first last next P chain follows = (chain.0, IsChain-push lists second last next (ArePolynomials-FollowsDigits ds P chain.0) chain.1 follows)
+
+    -- The last ideal is at the last place.
+    IsChain-last : (lists : List (List Polynomial)) (first last start : List Polynomial) → ArePolynomials F first → IsChain F f ds first lists last → SameIdeal F (get_or (first ∷ lists) (length lists) start) last
+    IsChain-last [] first last start P same = same
+    IsChain-last (second ∷ lists) first last start P chain = IsChain-last lists second last start (ArePolynomials-FollowsDigits ds P chain.0) chain.1
+
+    pub IsChain-up_to : (lists : List (List Polynomial)) (first last start : List Polynomial) → ArePolynomials F first → IsChain F f ds first lists last → (i : ℕ) → i ≤ length lists
+        → IsChain F f ds first (take i lists) (get_or (first ∷ lists) i start)
+    IsChain-up_to lists first last start P chain zero h = SameIdeal-refl L P
+    IsChain-up_to [] first last start P chain (suc i) h = absurd (omega arith)
+    IsChain-up_to (second ∷ lists) first last start P chain (suc i) h = (chain.0, IsChain-up_to lists second last start (ArePolynomials-FollowsDigits ds P chain.0) chain.1 i (omega arith))
+
+    pub IsChain-step : (lists : List (List Polynomial)) (first last start : List Polynomial) → IsChain F f ds first lists last → (i : ℕ) → i < length lists
+        → FollowsDigits F f ds (get_or (first ∷ lists) i start) (get_or (first ∷ lists) (suc i) start)
+    IsChain-step [] first last start chain i h = absurd (omega arith)
+    IsChain-step (second ∷ lists) first last start chain zero h = chain.0
+    IsChain-step (second ∷ lists) first last start chain (suc i) h = IsChain-step lists second last start chain.1 i (omega arith)
+
+    -- A chain without a repeat goes on without one.
+    pub Repeats-push : (lists : List (List Polynomial)) (first last next : List Polynomial) → ArePolynomials F first → ArePolynomials F next → IsChain F f ds first lists last
+        → (Repeats F (chain_at first lists) (length lists) → ⊥) → (SameIdeal F last next → ⊥) → Repeats F (chain_at first (lists ++ next ∷ [])) (length (lists ++ next ∷ [])) → ⊥
+    Repeats-push lists first last next P Q chain strict apart found = elim (cases_lt found.0 (length lists)) [
+      | inl early ↦ strict (
+        found.0,
+        early,
+        subst (λ M. SameIdeal F M (chain_at first lists (suc found.0))) (before found.0 (omega (arith, early)))
+            (subst (λ M. SameIdeal F (chain_at first (lists ++ next ∷ []) found.0) M) (before (suc found.0) (omega (arith, early))) found.2),
+      )
+      | inr late ↦
+          let sum : length (lists ++ next ∷ []) ≡ length lists + 1 = length-append lists (next ∷ []) in
+          let less = found.1 in
+          let place : found.0 ≡ length lists = omega (arith, sum, less, late) in
+          let step : SameIdeal F (chain_at first (lists ++ next ∷ []) (length lists)) (chain_at first (lists ++ next ∷ []) (suc (length lists))) =
+          subst (λ i. SameIdeal F (chain_at first (lists ++ next ∷ []) i) (chain_at first (lists ++ next ∷ []) (suc i))) place found.2 in
+          let from : SameIdeal F (chain_at first lists (length lists)) (chain_at first (lists ++ next ∷ []) (suc (length lists))) =
+          subst (λ M. SameIdeal F M (chain_at first (lists ++ next ∷ []) (suc (length lists)))) (before (length lists) (omega arith)) step in
+          let to : SameIdeal F (chain_at first lists (length lists)) next =
+          subst (SameIdeal F (chain_at first lists (length lists))) (get_or-append_seam (first ∷ lists) next [] first) from in
+          let end = IsChain-last lists first last first P chain in
+          let R = ArePolynomials-IsChain lists P chain in
+          apart (SameIdeal-trans L R (ArePolynomials-Inside R end.forth) Q (SameIdeal-sym end) to)
+    ]
+      where
+        before : (i : ℕ) → i < suc (length lists) → chain_at first (lists ++ next ∷ []) i ≡ chain_at first lists i
+        before i h = get_or_append_left (first ∷ lists) (next ∷ []) first i h
+
     -- A chain is constant from a repeat on.
     repeats_stay_from : {J next : List Polynomial} → ArePolynomials F J → FollowsDigits F f ds J next → SameIdeal F J next
         → (lists : List (List Polynomial)) {first last : List Polynomial} → ArePolynomials F first → SameIdeal F J first → IsChain F f ds first lists last → SameIdeal F J last
-    repeats_stay_from {J} P follows E [] Q G chain = subst (SameIdeal F J) chain G
+    repeats_stay_from P follows E [] Q G same = SameIdeal-trans L P Q (ArePolynomials-Inside Q same.back) G same
     repeats_stay_from {J} {next} P follows E (second ∷ lists) Q G chain =
         let R = ArePolynomials-FollowsDigits ds Q chain.0 in
         repeats_stay_from P follows E lists R
@@ -114,7 +225,7 @@ module _ {F : Field} (L : IsField F) {f : Polynomial} (A : IsPolynomial F f) whe
         (IsRoot-digit L b (k * b) A (repeated_value (p ^ b) a k) a P R (FollowsDigits-root ds R.polynomials follows)))
 
     pub IsAfter-chain : (k : ℕ) (lists : List (List Polynomial)) {first last : List Polynomial} → IsAfter k first → IsChain F f ds first lists last → IsAfter (k + length lists) last
-    IsAfter-chain k [] {last = last} R chain = let place : k ≡ k + 0 = omega arith in subst (λ k. IsAfter k last) place (subst (IsAfter k) chain R)
+    IsAfter-chain k [] {last = last} R same = let place : k ≡ k + 0 = omega arith in subst (λ k. IsAfter k last) place (IsMultipleRoot-SameIdeal P (k * length ds) _ R same)
     IsAfter-chain k (second ∷ lists) {last = last} R chain =
         let place : suc k + length lists ≡ k + suc (length lists) = omega arith in
         subst (λ k. IsAfter k last) place (IsAfter-chain (suc k) lists (IsAfter-next k R chain.0) chain.1)

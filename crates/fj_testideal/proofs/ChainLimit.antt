@@ -1,5 +1,5 @@
 -- The limits of chains of roots are test ideals and left limits.
-use Rattle.std.proofs.Common.{◌≡◌, ℕ, suc, ◌+◌, ◌-◌, ◌*◌, ◌^◌, ◌<◌, ◌≤◌, List, [], ◌∷◌, length, All, refl, sym, subst, arith}
+use Rattle.std.proofs.Common.{◌≡◌, ℕ, suc, ◌+◌, ◌-◌, ◌*◌, ◌^◌, ◌<◌, ◌≤◌, List, [], ◌∷◌, length, All, sym, subst, arith}
 use Rattle.std.proofs.Math.Nat.{mul-le-mul_left}
 use Rattle.fj_coeff.specs.Field.{Field, IsField}
 use Rattle.fj_theory.specs.Exponents.{origin}
@@ -12,6 +12,7 @@ use Rattle.fj_theory.proofs.Period.{repeated_last}
 use Rattle.fj_theory.proofs.Field.{characteristic_large}
 use Rattle.fj_theory.proofs.Frobenius.{power_positive}
 use Rattle.fj_theory.proofs.IdealBridge.{ArePolynomials-single, IsPolynomial-one}
+use Rattle.fj_theory.proofs.Ideal.{SameIdeal-refl}
 use Rattle.fj_theory.proofs.RootParts.{IsRoot-digit}
 use Rattle.fj_testideal.specs.TestIdeal.{IsTestIdeal, IsLeftLimit}
 use Rattle.fj_testideal.specs.Chain.{FollowsDigits, IsChain, IsLimit}
@@ -137,11 +138,11 @@ module _ {F : Field} (L : IsField F) {f : Polynomial} (A : IsPolynomial F f) whe
         let p = F.characteristic in
         let large = characteristic_large L in
         test_ideal-reached u (period_above p period u large below some value) [] period (period_length p period u large below some value) (number_from_period p period u large below some value) limit
-        (FollowsDigits-root L A [] (ArePolynomials-IsLimit period own limit) refl)
+        (FollowsDigits-root L A [] (ArePolynomials-IsLimit period own limit) (SameIdeal-refl L (ArePolynomials-IsLimit period own limit)))
 
     pub left_limit-from_period : IsLimit F f period (term 1 origin ∷ []) J → IsLeftLimit F f u J
     left_limit-from_period limit =
         let p = F.characteristic in
         let large = characteristic_large L in
         left_limit-reached u (period_above p period u large below some value) [] period (period_length p period u large below some value) (number_from_period p period u large below some value) limit
-        (FollowsDigits-root L A [] (ArePolynomials-IsLimit period unit limit) refl)
+        (FollowsDigits-root L A [] (ArePolynomials-IsLimit period unit limit) (SameIdeal-refl L (ArePolynomials-IsLimit period unit limit)))

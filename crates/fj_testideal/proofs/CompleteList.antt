@@ -14,8 +14,10 @@ use Rattle.fj_theory.proofs.Digits.{product_positive}
 use Rattle.fj_theory.proofs.Candidates.{IsCandidate-SameValue}
 use Rattle.fj_theory.proofs.Gaps.{candidate_or_inside}
 use Rattle.fj_theory.proofs.Field.{characteristic_large}
-use Rattle.fj_testideal.specs.Jump.{IsJump}
+use Rattle.fj_testideal.specs.Jump.{IsJump, IsUnchangedAt}
 use Rattle.fj_testideal.specs.JumpList.{Jump, IsListedJump, AreJumps, AreOpenGaps, IsComplete}
+use Rattle.fj_theory.proofs.Ideal.{SameIdeal-refl}
+use Rattle.fj_testideal.proofs.Jump.{ArePolynomials-IsTestIdeal, jump_differs}
 use Rattle.fj_testideal.proofs.ConstantInside.{no_jump-inside_constant}
 use Rattle.fj_testideal.proofs.TestIdeal.{IsTestIdeal-SameValue}
 
@@ -43,6 +45,23 @@ module _ {F : Field} (L : IsField F) {f : Polynomial} (A : IsPolynomial F f) whe
     is_new = λ s less I. jump.is_new s (less_same s t u same less) I;
   }
 
+  -- Where the test ideal doesn't change is no jumping number.
+  unchanged_is_no_jump : (t : Fraction) → IsUnchangedAt F f t → IsJump F f t → ⊥
+  unchanged_is_no_jump t h jump =
+      jump_differs L A t jump.above_zero h.is_left_limit h.is_test_ideal jump (SameIdeal-refl L (ArePolynomials-IsTestIdeal h.is_test_ideal))
+
+  pub listed_is_jump : {E : ℕ} {jumps : List Jump} → AreJumps F f E jumps → (t : Fraction) → Any (λ jump. SameValue t jump.at) jumps → IsJump F f t
+  listed_is_jump {E} {jumps} are t listed =
+      let found = Any-element (λ jump. SameValue t jump.at) jumps listed in
+      let jump = All-contains (IsListedJump F f E) jumps found.0 are.sound found.1 in
+      IsJump-SameValue found.0.at t (SameValue-sym t found.0.at found.2) jump.is_jump
+
+  pub jump_is_listed : {E : ℕ} {jumps : List Jump} → AreJumps F f E jumps → (t : Fraction) → IsCandidate F.characteristic E t → IsJump F f t → Any (λ jump. SameValue t jump.at) jumps
+  jump_is_listed are t candidate jump = elim (are.listed_or_unchanged t candidate) [
+    | inl listed ↦ listed
+    | inr same ↦ absurd (unchanged_is_no_jump t same jump)
+  ]
+
   pub listed_or_in_open_gap : (E : ℕ) → 1 ≤ E → {jumps : List Jump} → AreJumps F f E jumps → {open_gaps : List Gap} → AreOpenGaps F f E open_gaps
       → (t : Fraction) → IsInUnitInterval t → IsJump F f t → Any (λ jump. SameValue t jump.at) jumps ⊎ Any (IsInside t) open_gaps
   listed_or_in_open_gap E some {jumps} are {open_gaps} gaps_are t unit jump =
@@ -52,12 +71,14 @@ module _ {F : Field} (L : IsField F) {f : Polynomial} (A : IsPolynomial F f) whe
       go (inl at) =
           let found = Any-element (SameValue t) gaps_are.candidates at in
           let candidate = All-contains (IsCandidate F.characteristic E) gaps_are.candidates found.0 gaps_are.are_candidates.sound found.1 in
-          inl (are.complete t (IsCandidate-SameValue F.characteristic E found.0 t (SameValue-sym t found.0 found.2) candidate) jump)
+          inl (jump_is_listed are t (IsCandidate-SameValue F.characteristic E found.0 t (SameValue-sym t found.0 found.2) candidate) jump)
       go (inr inside) =
           let found = Any-element (IsInside t) (gaps gaps_are.candidates) inside in
           let rising = compare-IsTotalOrder.trans found.0.lower t found.0.upper found.2.above found.2.below in
-          let opened = gaps_are.complete found.0 found.1 (λ C. no_jump-inside_constant L A found.0.lower found.0.upper rising C t found.2.above found.2.below jump) in
-          inr (opened.0, found.0, opened.1, opened.2, found.2)
+          elim (gaps_are.constant_or_open found.0 found.1) [
+            | inl C ↦ absurd (no_jump-inside_constant L A found.0.lower found.0.upper rising C t found.2.above found.2.below jump)
+            | inr opened ↦ inr (opened.0, found.0, opened.1, opened.2, found.2)
+          ]
 
   pub complete_list : (E : ℕ) → 1 ≤ E → {jumps : List Jump} → AreJumps F f E jumps → IsComplete F f E → (t : Fraction) → IsInUnitInterval t
       → IsJump F f t ↔ Any (λ jump. SameValue t jump.at) jumps
@@ -66,8 +87,5 @@ module _ {F : Field} (L : IsField F) {f : Polynomial} (A : IsPolynomial F f) whe
       | inl found ↦ found
       | inr inside ↦ (let found = Any-element (IsInside t) [] inside in absurd (contains_nil found.0 found.1))
     ],
-    λ listed.
-        let found = Any-element (λ jump. SameValue t jump.at) jumps listed in
-        let jump = All-contains (IsListedJump F f E) jumps found.0 are.sound found.1 in
-        IsJump-SameValue found.0.at t (SameValue-sym t found.0.at found.2) jump.is_jump,
+    λ listed. listed_is_jump are t listed,
   )

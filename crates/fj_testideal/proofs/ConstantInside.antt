@@ -1,7 +1,7 @@
 -- What an interval on which the test ideal is constant has inside.
 use Rattle.std.proofs.Common.{◌≡◌, ℕ, ◌*◌, ◌^◌, ◌<◌, ◌≤◌, max, arith}
 use Rattle.std.specs.declared.cmp.Ordering.TheVariants.{Less}
-use Rattle.std.proofs.Math.Nat.{mul-le-mul_right, mul-lt-mul_of_pos_right, lt_of_mul-lt-mul_right}
+use Rattle.std.proofs.Math.Nat.{mul-le-mul_right, mul-lt-mul_of_pos_right, lt_of_mul-lt-mul_right, le_of_mul-le-mul_right}
 use Rattle.fj_coeff.specs.Field.{Field, IsField}
 use Rattle.fj_theory.specs.Polynomial.{Polynomial, IsPolynomial}
 use Rattle.fj_theory.specs.Fraction.{IsAtMost, Fraction, compare}
@@ -28,6 +28,13 @@ at_most_less s t u at_most less =
     let second : t.numerator * u.denominator * s.denominator < u.numerator * t.denominator * s.denominator = mul-lt-mul_of_pos_right (less_from_compare t u less) s.positive in
     let both : s.numerator * u.denominator * t.denominator < u.numerator * s.denominator * t.denominator = omega arith in
     compare-less s u (lt_of_mul-lt-mul_right t.denominator both)
+
+pub IsAtMost-trans : (s t u : Fraction) → IsAtMost s t → IsAtMost t u → IsAtMost s u
+IsAtMost-trans s t u first second =
+    let left : s.numerator * t.denominator * u.denominator ≤ t.numerator * s.denominator * u.denominator = mul-le-mul_right u.denominator first in
+    let right : t.numerator * u.denominator * s.denominator ≤ u.numerator * t.denominator * s.denominator = mul-le-mul_right s.denominator second in
+    let both : s.numerator * u.denominator * t.denominator ≤ u.numerator * s.denominator * t.denominator = omega arith in
+    le_of_mul-le-mul_right both t.positive
 
 pub at_most_from_less : (s t : Fraction) → compare s t ≡ Less → IsAtMost s t
 at_most_from_less s t less = omega (arith, less_from_compare s t less)

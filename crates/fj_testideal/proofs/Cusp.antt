@@ -1,12 +1,12 @@
 -- The cusp x^2 + y^3 over GF(5) at 4/5.
-use Rattle.std.proofs.Common.{◌≡◌, ℕ, suc, ◌+◌, ◌*◌, ◌%◌, ◌^◌, ◌<◌, List, [], ◌∷◌, map, refl, sym, ap, ap₂, ◌∙◌, subst, arith, lit<}
+use Rattle.std.proofs.Common.{◌≡◌, ℕ, zero, suc, ◌+◌, ◌*◌, ◌%◌, ◌^◌, ◌<◌, List, [], ◌∷◌, map, refl, sym, ap, ap₂, ◌∙◌, subst, arith, lit<}
 use Rattle.std.proofs.lemmas.List.Elements.{All-nil, All-from_recursion}
 use Rattle.std.proofs.lemmas.Nat.Gcd.{IsGcd-from_zero, IsGcd-from_mod}
 use Rattle.fj_coeff.specs.Field.{Field, IsField}
 use Rattle.fj_coeff.specs.Field as field
 use Rattle.fj_coeff.specs.PrimeField.{prime_field}
 use Rattle.fj_theory.specs.Polynomial.{Polynomial, IsPolynomial, sum, product, power, term}
-use Rattle.fj_theory.specs.Ideal.{ArePolynomials, Member, multiples}
+use Rattle.fj_theory.specs.Ideal.{ArePolynomials, Member, SameIdeal, multiples}
 use Rattle.fj_theory.specs.FrobeniusPower.{frobenius_power}
 use Rattle.fj_theory.specs.Fraction.{IsInUnitInterval, ceil_times}
 use Rattle.fj_theory.specs.Digits.{ceiling_less_one, digit, digits, IsExpansion}
@@ -15,18 +15,19 @@ use Rattle.fj_theory.specs.Evaluation.{IsPoint, IsZeroOf, monomial_value, value 
 use Rattle.fj_theory.specs.MonomialOrder.{lex_key}
 use Rattle.fj_theory.specs.Root.{IsRoot}
 use Rattle.fj_theory.proofs.PolynomialRing.{sum_empty, power_suc, product_one, product_comm, IsPolynomial-power}
-use Rattle.fj_theory.proofs.IdealBridge.{ArePolynomials-cons, ArePolynomials-single}
+use Rattle.fj_theory.proofs.IdealBridge.{ArePolynomials-cons, ArePolynomials-single, IsPolynomial-one}
 use Rattle.fj_theory.proofs.Ideal.{SameIdeal-refl, Member-product, Member-all, Member-Contains, Inside-cons, Inside-single, Inside-head, Inside-Contains}
 use Rattle.fj_theory.proofs.Evaluation.{value-term, value-one, Member-IsZeroOf}
 use Rattle.fj_theory.proofs.FrobeniusPower.{ArePolynomials-frobenius_power}
 use Rattle.fj_theory.proofs.Product.{IsPolynomial-product}
 use Rattle.fj_theory.proofs.Root.{IsRoot-SameIdeal_root}
 use Rattle.fj_theory.proofs.RootParts.{IsRoot-frobenius_power, IsRoot-one}
-use Rattle.fj_testideal.specs.Chain.{IsStep, IsLimit}
+use Rattle.fj_testideal.specs.Chain.{IsStep, IsLimit, chain_at}
 use Rattle.fj_testideal.specs.Examples.{xy, cusp, four_fifths, IsCuspOverFive}
 use Rattle.fj_testideal.proofs.TestIdeal.{IsLeftLimit-unique}
 use Rattle.fj_testideal.proofs.Jump.{jump_from_difference}
 use Rattle.fj_testideal.proofs.ChainLimit.{test_ideal-from_digits, left_limit-from_digits}
+use Rattle.fj_testideal.proofs.NumberOfPeriods.{tells_number}
 use Rattle.fj_testideal.proofs.TermSum.{L, at, Item, item, value, IsExponents-at, IsPolynomial-item, IsPolynomial-value, multiply, raise, value-multiply, value-single, value-raise, item_product, ItemPart, part_of, root_of_value}
 
 -- The terms of the cusp.
@@ -196,23 +197,31 @@ expansion = record {
   period = refl;
 }
 
+strict : (i : ℕ) → i < 1 → SameIdeal (prime_field 5) (chain_at unit (yx ∷ []) i) (chain_at unit (yx ∷ []) (suc i)) → ⊥
+strict zero h E = one_outside (Inside-head E.forth)
+strict (suc i) h E = absurd (omega arith)
+
 -- The test ideal and the left limit at 4/5.
 pub cusp_over_five : IsCuspOverFive
 unfolding term origin
 cusp_over_five =
     let interval : IsInUnitInterval four_fifths = record { above_zero = lit< tt; at_most_one = lit< tt } in
+    let own = SameIdeal-refl L (ArePolynomials-single A) in
+    let whole = SameIdeal-refl L (ArePolynomials-single (IsPolynomial-one L)) in
+    let middle = SameIdeal-refl L yx_polynomials in
     let limit_from_f : IsLimit (prime_field 5) cusp (4 ∷ []) (cusp ∷ []) (cusp ∷ []) =
-    record { lists = []; chain = refl; next = cusp ∷ []; follows = (cusp ∷ [], refl, step_from_f); repeats = SameIdeal-refl L (ArePolynomials-single A) } in
+    record { lists = []; chain = own; next = cusp ∷ []; follows = (cusp ∷ [], own, step_from_f); repeats = SameIdeal-refl L (ArePolynomials-single A) } in
     let limit_from_one : IsLimit (prime_field 5) cusp (4 ∷ []) unit yx =
-    record { lists = yx ∷ []; chain = ((unit, refl, first_from_one), refl); next = yx; follows = (yx, refl, step_from_yx); repeats = SameIdeal-refl L yx_polynomials } in
-    let test_ideal = test_ideal-from_digits L A four_fifths interval _ expansion limit_from_f (cusp ∷ [], refl, last_from_f) in
-    let left_limit = left_limit-from_digits L A four_fifths interval _ expansion limit_from_one (yx, refl, last_from_yx) in
+    record { lists = yx ∷ []; chain = ((unit, whole, first_from_one), middle); next = yx; follows = (yx, middle, step_from_yx); repeats = SameIdeal-refl L yx_polynomials } in
+    let test_ideal = test_ideal-from_digits L A four_fifths interval _ expansion limit_from_f (cusp ∷ [], own, last_from_f) in
+    let left_limit = left_limit-from_digits L A four_fifths interval _ expansion limit_from_one (yx, middle, last_from_yx) in
     record {
       expansion = expansion;
       limit_from_f = limit_from_f;
-      digits_from_f = (cusp ∷ [], refl, last_from_f);
+      digits_from_f = (cusp ∷ [], own, last_from_f);
       limit_from_one = limit_from_one;
-      digits_from_one = (yx, refl, last_from_yx);
+      number_from_one = (tells_number L A (4 ∷ []) (yx ∷ []) yx yx).from_one limit_from_one.chain limit_from_one.follows middle (λ found. strict found.0 found.1 found.2);
+      digits_from_one = (yx, middle, last_from_yx);
       test_ideal = test_ideal;
       left_limit = left_limit;
       is_jump = jump_from_difference L A four_fifths interval.above_zero left_limit test_ideal (λ E. one_outside (Inside-head E.forth));

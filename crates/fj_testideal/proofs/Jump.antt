@@ -19,8 +19,7 @@ use Rattle.fj_theory.proofs.Ideal.{SameIdeal-sym, SameIdeal-trans, Inside-head}
 use Rattle.fj_theory.proofs.Root.{IsRoot-unique}
 use Rattle.fj_theory.proofs.RootParts.{IsRoot-frobenius_power}
 use Rattle.fj_testideal.specs.TestIdeal.{IsTestIdeal, IsLeftLimit}
-use Rattle.fj_testideal.specs.Jump.{IsJump, IsBetween, IsConstant}
-use Rattle.fj_testideal.specs.JumpLaws.{HoldsChange}
+use Rattle.fj_testideal.specs.Jump.{IsJump, IsBetween, IsConstant, HoldsChange}
 use Rattle.fj_testideal.proofs.Ceiling.{power_large, ceiling_below, between_low, between_high, just_below, just_below-less, ceil_times-just_below}
 use Rattle.fj_testideal.proofs.Degrees.{degree-Member}
 use Rattle.fj_testideal.proofs.PowerRoot.{IsPowerRoot, power_root-scaled, power_root-unscaled, power_root-squeezed}

@@ -1,4 +1,5 @@
 pub mod Binomial
+pub mod BinomialBound
 pub mod Counting
 pub mod LeadSteps
 pub mod Variables
@@ -14,13 +15,19 @@ pub mod Jump
 pub mod CompleteList
 pub mod Threshold
 pub mod ThresholdGap
+pub mod ThresholdSearch
 pub mod LeftLimit
 pub mod ConstantInside
+pub mod GapOrder
+pub mod OpenGaps
+pub mod JumpGaps
 pub mod RightLimit
 pub mod Chain
 pub mod PeriodValue
 pub mod ChainLimit
 pub mod BoundedPeriod
+pub mod StrictChain
+pub mod NumberOfPeriods
 pub mod SumOfPowers
 pub mod FermatCubic
 pub mod MonomialRoot

@@ -1,5 +1,5 @@
 -- Roots, chains and test ideals of powers of one variable, by numbers.
-use Rattle.std.proofs.Common.{◌≡◌, ℕ, ◌+◌, ◌*◌, ◌/◌, ◌^◌, ◌<◌, List, [], ◌∷◌, Some, refl, sym, ap, ◌∙◌, subst, arith, lit<}
+use Rattle.std.proofs.Common.{◌≡◌, ℕ, zero, suc, ◌+◌, ◌*◌, ◌/◌, ◌^◌, ◌<◌, List, [], ◌∷◌, Some, refl, sym, ap, ◌∙◌, subst, arith, lit<}
 use Rattle.fj_coeff.specs.Field.{Field, IsField}
 use Rattle.fj_theory.specs.Exponents.{IsExponents, total, plus, times, quotient_by}
 use Rattle.fj_theory.specs.Polynomial.{IsPolynomial, power, product, term, degree}
@@ -16,10 +16,11 @@ use Rattle.fj_theory.proofs.Monomial.{product_terms}
 use Rattle.fj_theory.proofs.IdealBridge.{ArePolynomials-single}
 use Rattle.fj_theory.proofs.Ideal.{SameIdeal-refl, Inside-head}
 use Rattle.fj_testideal.specs.TestIdeal.{IsTestIdeal, IsLeftLimit}
-use Rattle.fj_testideal.specs.Chain.{IsStep}
+use Rattle.fj_testideal.specs.Chain.{IsStep, IsLimit, chain_at}
 use Rattle.fj_testideal.specs.Examples.{x, third, one, IsNoSingleRoot, StartsAtOne, UsesLowestFirst}
 use Rattle.fj_testideal.proofs.Degrees.{degree-Member}
 use Rattle.fj_testideal.proofs.TestIdeal.{IsTestIdeal-unique, IsLeftLimit-unique}
+use Rattle.fj_testideal.proofs.NumberOfPeriods.{tells_number}
 use Rattle.fj_testideal.proofs.MonomialRoot.{div_between, power_monomial, IsRoot-monomial, test_ideal-monomial, left_limit-monomial}
 
 -- The exponents of x^n.
@@ -96,30 +97,37 @@ module _ {F : Field} (L : IsField F) where
         let left : IsLeftLimit F (x 1) one (x 0 ∷ []) = left_limit-monomial L (IsExponents-x 1) one (lit< tt) in
         record {
           digits_of_one = ap (λ p. digits p one 0 1) two;
-          limit_from_f = record { lists = []; chain = refl; next = x 1 ∷ []; follows = (x 1 ∷ [], refl, step_x 1 1 1 1 refl); repeats = same 1 };
-          limit_from_one = record { lists = []; chain = refl; next = x 0 ∷ []; follows = (x 0 ∷ [], refl, step_x 1 1 0 0 refl); repeats = same 0 };
+          limit_from_f = record { lists = []; chain = same 1; next = x 1 ∷ []; follows = (x 1 ∷ [], same 1, step_x 1 1 1 1 refl); repeats = same 1 };
+          limit_from_one = record { lists = []; chain = same 0; next = x 0 ∷ []; follows = (x 0 ∷ [], same 0, step_x 1 1 0 0 refl); repeats = same 0 };
           left_limit = left;
           apart = λ other. let e = apart 0 1 (IsLeftLimit-unique left other) in absurd (omega arith);
         }
+
+    strict : (i : ℕ) → i < 2 → SameIdeal F (chain_at (x 5 ∷ []) ((x 2 ∷ []) ∷ (x 1 ∷ []) ∷ []) i) (chain_at (x 5 ∷ []) ((x 2 ∷ []) ∷ (x 1 ∷ []) ∷ []) (suc i)) → ⊥
+    strict zero h E = let e = apart 5 2 E in absurd (omega arith)
+    strict (suc zero) h E = let e = apart 2 1 E in absurd (omega arith)
+    strict (suc (suc i)) h E = absurd (omega arith)
 
     pub lowest_digit_comes_first : UsesLowestFirst F
     unfolding ceil_times digits digit ceiling_less_one
     lowest_digit_comes_first =
         let limit : IsTestIdeal F (x 5) third (x 1 ∷ []) = test_ideal-monomial L (IsExponents-x 5) third in
+        let rising : IsLimit F (x 5) (0 ∷ 1 ∷ []) (x 5 ∷ []) (x 1 ∷ []) = record {
+          lists = (x 2 ∷ []) ∷ (x 1 ∷ []) ∷ [];
+          chain = ((x 5 ∷ [], (x 5 ∷ [], same 5, step_x 5 1 5 5 refl), step_x 5 0 5 2 refl), ((x 3 ∷ [], (x 2 ∷ [], same 2, step_x 5 1 2 3 refl), step_x 5 0 3 1 refl), same 1));
+          next = x 1 ∷ [];
+          follows = (x 3 ∷ [], (x 1 ∷ [], same 1, step_x 5 1 1 3 refl), step_x 5 0 3 1 refl);
+          repeats = same 1;
+        } in
         record {
           digits_of_third = ap (λ p. digits p third 0 2) two;
-          limit = record {
-            lists = (x 2 ∷ []) ∷ (x 1 ∷ []) ∷ [];
-            chain = ((x 5 ∷ [], (x 5 ∷ [], refl, step_x 5 1 5 5 refl), step_x 5 0 5 2 refl), ((x 3 ∷ [], (x 2 ∷ [], refl, step_x 5 1 2 3 refl), step_x 5 0 3 1 refl), refl));
-            next = x 1 ∷ [];
-            follows = (x 3 ∷ [], (x 1 ∷ [], refl, step_x 5 1 1 3 refl), step_x 5 0 3 1 refl);
-            repeats = same 1;
-          };
+          limit = rising;
+          number = (tells_number L (IsPolynomial-x 5) (0 ∷ 1 ∷ []) rising.lists (x 1 ∷ []) (x 1 ∷ [])).from_f rising.chain rising.follows (same 1) (λ found. strict found.0 found.1 found.2);
           other_limit = record {
             lists = (x 3 ∷ []) ∷ [];
-            chain = ((x 2 ∷ [], (x 5 ∷ [], refl, step_x 5 0 5 2 refl), step_x 5 1 2 3 refl), refl);
+            chain = ((x 2 ∷ [], (x 5 ∷ [], same 5, step_x 5 0 5 2 refl), step_x 5 1 2 3 refl), same 3);
             next = x 3 ∷ [];
-            follows = (x 1 ∷ [], (x 3 ∷ [], refl, step_x 5 0 3 1 refl), step_x 5 1 1 3 refl);
+            follows = (x 1 ∷ [], (x 3 ∷ [], same 3, step_x 5 0 3 1 refl), step_x 5 1 1 3 refl);
             repeats = same 3;
           };
           test_ideal = limit;

@@ -12,6 +12,7 @@ use Rattle.fj_theory.specs.Fraction.{IsAtMost, Fraction, SameValue, compare, cei
 use Rattle.fj_theory.proofs.RootParts.{IsRoot-one}
 use Rattle.fj_theory.proofs.PolynomialRing.{power_zero}
 use Rattle.fj_theory.proofs.Fraction.{ceil_times-le, ceil_times-SameValue, SameValue-from_compare, compare-IsTotalOrder, compare-less}
+use Rattle.fj_theory.proofs.Fedder.{power_one}
 use Rattle.fj_theory.proofs.Field.{characteristic_large}
 use Rattle.fj_theory.proofs.Ideal.{Inside-single, Inside-head, Inside-trans}
 use Rattle.fj_theory.proofs.Root.{Inside-IsRoot}
@@ -117,6 +118,25 @@ module _ {F : Field} (L : IsField F) {f : Polynomial} (A : IsPolynomial F f) {J 
       | inr (inr l) ↦ absurd (N.outside (power_inside-more e (omega arith) (Member-frobenius_power L e P H)))
     ];
   }
+
+  -- p nu(e) <= nu(e+1) <= p nu(e) + p - 1.
+  pub nu-grows_by_digit : (e r s : ℕ) → IsNu F f J e r → IsNu F f J (suc e) s → (F.characteristic * r ≤ s) × (s ≤ F.characteristic * r + F.characteristic - 1)
+  nu-grows_by_digit e r s N M =
+      let next : e + 1 ≡ suc e = omega arith in
+      let one : F.characteristic ^ 1 ≡ F.characteristic = power_one F.characteristic in
+      let low : (m : ℕ) → m * F.characteristic ^ 1 ≡ F.characteristic * m = λ m. ap (λ q. m * q) one ∙ omega arith in (
+        elim (compare_numbers s (F.characteristic * r)) [
+          | inl less ↦ absurd (N.outside (power_inside-back e 1 r (F.characteristic * r) (omega (arith, low r))
+              (subst (λ d. IsPowerInside F f J d (F.characteristic * r)) (sym next) (M.greatest (F.characteristic * r) less))))
+          | inr more ↦ elim more [ inl same ↦ omega (arith, same) | inr large ↦ omega (arith, large) ]
+        ],
+        elim (compare_numbers s (F.characteristic * r + F.characteristic)) [
+          | inl less ↦ omega (arith, less)
+          | inr more ↦
+              let above : F.characteristic * suc r ≤ s = elim more [ inl same ↦ omega (arith, same) | inr large ↦ omega (arith, large) ] in
+              absurd (M.outside (subst (λ d. IsPowerInside F f J d s) next (power_inside-across e 1 (suc r) s (omega (arith, above, low (suc r))) (N.greatest (suc r) (omega arith)))))
+        ],
+      )
 
   IsThreshold-SameValue : (s t : Fraction) → SameValue s t → IsThreshold F f J s → IsThreshold F f J t
   IsThreshold-SameValue s t same h = record {

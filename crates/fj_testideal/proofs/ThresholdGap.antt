@@ -1,14 +1,12 @@
 -- The gap of the candidates that has the threshold inside.
-use Rattle.std.proofs.Common.{◌≡◌, ◌↔◌, ◌⊎◌, inl, inr, ℕ, ◌-◌, ◌*◌, ◌^◌, ◌<◌, ◌≤◌, List, [], ◌∷◌, All, Any, Contains, refl, sym, ap, ◌∙◌, subst, arith, lit<}
-use Rattle.std.specs.declared.cmp.Ordering.TheVariants.{Less}
-use Rattle.std.specs.List.Sorted.{IsStrictlySortedBy}
-use Rattle.std.proofs.lemmas.List.Elements.{All-nil, All-cons, All-head, All-tail, All-contains, All-from_recursion}
+use Rattle.std.proofs.Common.{◌≡◌, ◌↔◌, ◌⊎◌, inl, inr, ℕ, ◌-◌, ◌*◌, ◌^◌, ◌<◌, ◌≤◌, List, [], ◌∷◌, All, Any, Contains, refl, sym, ap, subst, arith, lit<}
+use Rattle.std.proofs.lemmas.List.Elements.{All-nil, All-cons, All-head, All-tail, All-contains}
 use Rattle.fj_coeff.specs.Field.{Field, IsField}
 use Rattle.fj_algebra.proofs.Lists.{Any-head, Any-tail, Any-element}
-use Rattle.fj_algebra.proofs.Pairs.{contains_cons, contains_head, contains_tail, contains_nil, All-from_elements}
+use Rattle.fj_algebra.proofs.Pairs.{contains_head, contains_tail, All-from_elements}
 use Rattle.fj_theory.specs.Polynomial.{Polynomial, IsPolynomial}
 use Rattle.fj_theory.specs.Ideal.{ArePolynomials, Member, Inside}
-use Rattle.fj_theory.specs.Fraction.{IsAtMost, Fraction, SameValue, compare, ceil_times}
+use Rattle.fj_theory.specs.Fraction.{IsAtMost, Fraction, SameValue, ceil_times}
 use Rattle.fj_theory.specs.Candidates.{IsCandidate, AreCandidates, Gap, neighbours, gaps}
 use Rattle.fj_theory.proofs.Fraction.{ceil_times-le, ceil_times-whole}
 use Rattle.fj_theory.proofs.Candidates.{IsCandidate-one, IsInUnitInterval-from_candidate}
@@ -19,80 +17,18 @@ use Rattle.fj_testideal.proofs.TestIdeal.{test_ideal-zero}
 use Rattle.fj_testideal.specs.TestIdeal.{IsTestIdeal, IsLeftLimit}
 use Rattle.fj_testideal.specs.Threshold.{IsProper, IsPowerInside, IsThreshold, HasThresholdInside}
 use Rattle.fj_testideal.specs.ThresholdLaws.{IsDecidedAt, HasOneGap}
-use Rattle.fj_testideal.proofs.ConstantInside.{at_most_from_less}
+use Rattle.fj_testideal.proofs.GapOrder.{upper_end, outside_gap, gaps_apart}
 use Rattle.fj_testideal.proofs.Threshold.{power_inside_by_root, power_inside-more, test_ideal_inside, left_limit_inside, threshold_by_limits, ceiling_inside_above, threshold_is_one}
-
--- The ends of a gap among the members of the list.
-lower_end : (s : Fraction) (ts : List Fraction) (gap : Gap) → Contains (neighbours s ts) gap → (s ≡ gap.lower) ⊎ Contains ts gap.lower
-unfolding neighbours
-lower_end s [] gap c = absurd (contains_nil gap c)
-lower_end s (t ∷ ts) gap c = elim (contains_cons (record { lower = s; upper = t }) (neighbours t ts) gap c) [
-  | inl e ↦ inl (ap (λ g. g.lower) e)
-  | inr d ↦ inr (elim (lower_end t ts gap d) [ inl e ↦ subst (Contains (t ∷ ts)) e (contains_head t ts) | inr h ↦ contains_tail t ts gap.lower h ])
-]
-
-upper_end : (s : Fraction) (ts : List Fraction) (gap : Gap) → Contains (neighbours s ts) gap → Contains ts gap.upper
-unfolding neighbours
-upper_end s [] gap c = absurd (contains_nil gap c)
-upper_end s (t ∷ ts) gap c = elim (contains_cons (record { lower = s; upper = t }) (neighbours t ts) gap c) [
-  | inl e ↦ subst (Contains (t ∷ ts)) (ap (λ g. g.upper) e) (contains_head t ts)
-  | inr d ↦ contains_tail t ts gap.upper (upper_end t ts gap d)
-]
-
--- The first member of a rising list is at most each gap after it, and each later member.
-module _ (t : Fraction) (ts : List Fraction) (rising : IsStrictlySortedBy compare (t ∷ ts)) where
-  first_least : (v : Fraction) → (t ≡ v) ⊎ Contains ts v → IsAtMost t v
-  unfolding IsStrictlySortedBy
-  first_least v (inl e) = subst (IsAtMost t) e (omega arith)
-  first_least v (inr c) = at_most_from_less t v (All-contains (λ u. compare t u ≡ Less) ts v (All-from_recursion (λ u. compare t u ≡ Less) ts rising.0) c)
-
-  rest_rises : IsStrictlySortedBy compare ts
-  unfolding IsStrictlySortedBy
-  rest_rises = rising.1
-
--- A member of the list is at most the lower end of a gap, or at least the upper end.
-outside_gap : (s : Fraction) (ts : List Fraction) → IsStrictlySortedBy compare ts → (gap : Gap) → Contains (neighbours s ts) gap → (v : Fraction) → Contains ts v
-    → IsAtMost v gap.lower ⊎ IsAtMost gap.upper v
-unfolding neighbours
-outside_gap s [] rising gap c v d = absurd (contains_nil v d)
-outside_gap s (t ∷ ts) rising gap c v d = go (contains_cons (record { lower = s; upper = t }) (neighbours t ts) gap c) (contains_cons t ts v d)
-    (λ k. outside_gap t ts (rest_rises t ts rising) gap k v)
-  where
-    go : (record { lower = s; upper = t } ≡ gap) ⊎ Contains (neighbours t ts) gap → (t ≡ v) ⊎ Contains ts v
-        → (Contains (neighbours t ts) gap → Contains ts v → IsAtMost v gap.lower ⊎ IsAtMost gap.upper v) → IsAtMost v gap.lower ⊎ IsAtMost gap.upper v
-    go (inl e) h later = inr (subst (λ u. IsAtMost u v) (ap (λ g. g.upper) e) (first_least t ts rising v h))
-    go (inr k) (inl e) later = inl (subst (λ u. IsAtMost u gap.lower) e (first_least t ts rising gap.lower (lower_end t ts gap k)))
-    go (inr k) (inr h) later = later k h
-
--- Of two gaps one lies before the other, or they are one.
-gaps_apart : (s : Fraction) (ts : List Fraction) → IsStrictlySortedBy compare ts → (g h : Gap) → Contains (neighbours s ts) g → Contains (neighbours s ts) h
-    → (g ≡ h) ⊎ (IsAtMost g.upper h.lower ⊎ IsAtMost h.upper g.lower)
-unfolding neighbours
-gaps_apart s [] rising g h c d = absurd (contains_nil g c)
-gaps_apart s (t ∷ ts) rising g h c d =
-    go (contains_cons (record { lower = s; upper = t }) (neighbours t ts) g c) (contains_cons (record { lower = s; upper = t }) (neighbours t ts) h d)
-    (gaps_apart t ts (rest_rises t ts rising) g h)
-  where
-    after : (g : Gap) → Contains (neighbours t ts) g → IsAtMost t g.lower
-    after g k = first_least t ts rising g.lower (lower_end t ts g k)
-
-    go : (record { lower = s; upper = t } ≡ g) ⊎ Contains (neighbours t ts) g → (record { lower = s; upper = t } ≡ h) ⊎ Contains (neighbours t ts) h
-        → (Contains (neighbours t ts) g → Contains (neighbours t ts) h → (g ≡ h) ⊎ (IsAtMost g.upper h.lower ⊎ IsAtMost h.upper g.lower))
-        → (g ≡ h) ⊎ (IsAtMost g.upper h.lower ⊎ IsAtMost h.upper g.lower)
-    go (inl e) (inl f) later = inl (sym e ∙ f)
-    go (inl e) (inr k) later = inr (inl (subst (λ u. IsAtMost u h.lower) (ap (λ g. g.upper) e) (after h k)))
-    go (inr k) (inl f) later = inr (inr (subst (λ u. IsAtMost u g.lower) (ap (λ g. g.upper) f) (after g k)))
-    go (inr k) (inr m) later = later k m
 
 module _ {F : Field} (L : IsField F) {f : Polynomial} (A : IsPolynomial F f) {J : List Polynomial} (P : ArePolynomials F J) where
   -- Some f^ceil(t*p^e) isn't in (J^[q]); some f^(ceil(t*p^e) - 1) is.
-  abbrev IsLow : Fraction → Type 0
+  abbrev pub IsLow : Fraction → Type 0
   IsLow t = (e : ℕ) × (IsPowerInside F f J e (ceil_times t (F.characteristic ^ e)) → ⊥)
 
-  abbrev IsHigh : Fraction → Type 0
+  abbrev pub IsHigh : Fraction → Type 0
   IsHigh t = (e : ℕ) × IsPowerInside F f J e (ceil_times t (F.characteristic ^ e) - 1)
 
-  low_from_test_ideal : (t : Fraction) {T : List Polynomial} → IsTestIdeal F f t T → (Inside F T J → ⊥) → IsLow t
+  pub low_from_test_ideal : (t : Fraction) {T : List Polynomial} → IsTestIdeal F f t T → (Inside F T J → ⊥) → IsLow t
   low_from_test_ideal t K n = (K.start, λ inside. n ((power_inside_by_root L A P K.start _ (K.root K.start (omega arith))).0 inside))
 
   module _ (E : ℕ) {ts : List Fraction} (C : AreCandidates F.characteristic E ts) where
@@ -100,7 +36,7 @@ module _ {F : Field} (L : IsField F) {f : Polynomial} (A : IsPolynomial F f) {J 
     positive t c = (IsInUnitInterval-from_candidate F.characteristic E t (omega (arith, characteristic_large L)) (All-contains (IsCandidate F.characteristic E) ts t C.sound c)).above_zero
 
     module _ (gap : Gap) (among : Contains (gaps ts) gap) where
-      upper_positive : 0 < gap.upper.numerator
+      pub upper_positive : 0 < gap.upper.numerator
       unfolding gaps
       upper_positive = positive gap.upper (upper_end _ ts gap among)
 
@@ -136,7 +72,7 @@ module _ {F : Field} (L : IsField F) {f : Polynomial} (A : IsPolynomial F f) {J 
     not_both : (g h : Gap) → Contains (gaps ts) g → IsAtMost g.upper h.lower → HasThresholdInside F f J E g → HasThresholdInside F f J E h → ⊥
     not_both g h c before G H = H.outside (ceiling_inside_above L A P h.lower g.upper (upper_positive g c) before G.high G.inside H.low)
 
-    only_gap : (g h : Gap) → Contains (gaps ts) g → Contains (gaps ts) h → HasThresholdInside F f J E g → HasThresholdInside F f J E h → g ≡ h
+    pub only_gap : (g h : Gap) → Contains (gaps ts) g → Contains (gaps ts) h → HasThresholdInside F f J E g → HasThresholdInside F f J E h → g ≡ h
     unfolding gaps
     only_gap g h c d G H = elim (gaps_apart _ ts C.rising g h c d) [
       | inl e ↦ e

@@ -1,14 +1,25 @@
 -- Laws of chains of roots, which the law functions prove. They say how test ideals and left limits are computed from digits.
-use Rattle.std.specs.Prelude.{◌≡◌, ℕ, ◌+◌, ◌-◌, ◌*◌, ◌^◌, ◌<◌, List, [], ◌∷◌, All, length}
+use Rattle.std.specs.Prelude.{◌≡◌, ℕ, ◌-◌, ◌*◌, ◌^◌, ◌<◌, List, [], ◌∷◌, ◌++◌, All, Any, length}
 use Rattle.fj_coeff.specs.Field.{Field, IsField}
 use Rattle.fj_theory.specs.Exponents.{origin}
 use Rattle.fj_theory.specs.Polynomial.{Polynomial, IsPolynomial, power, term}
 use Rattle.fj_theory.specs.Ideal.{ArePolynomials, Inside, SameIdeal, multiples}
 use Rattle.fj_theory.specs.Fraction.{Fraction, IsInUnitInterval}
-use Rattle.fj_theory.specs.Digits.{value_of, repeated_value, Expansion, IsExpansion}
+use Rattle.fj_theory.specs.Digits.{value_of, Expansion, IsExpansion}
 use Rattle.fj_theory.specs.Root.{IsRoot}
 use Rattle.fj_testideal.specs.TestIdeal.{IsTestIdeal, IsLeftLimit}
-use Rattle.fj_testideal.specs.Chain.{FollowsDigits, IsChain, IsLimit}
+use Rattle.fj_testideal.specs.Chain.{FollowsDigits, IsChain, IsLimit, chain_at, Repeats, IsRisingAfter, IsFallingAfter}
+
+-- Steps, chains and limits depend on the first and the last ideal alone, and not on the lists that generate them.
+pub record DependsOnIdeals (F : Field) (f : Polynomial) (ds : List ℕ) (J J' N N' : List Polynomial) : Type 0 where
+  pub digits : FollowsDigits F f ds J N → FollowsDigits F f ds J' N'
+  pub chain : (lists : List (List Polynomial)) → IsChain F f ds J lists N → IsChain F f ds J' lists N'
+  pub limit : IsLimit F f ds J N → IsLimit F f ds J' N'
+
+abbrev pub ChainsDependOnIdeals : Type 0
+ChainsDependOnIdeals =
+    (F : Field) → IsField F → (f : Polynomial) → IsPolynomial F f → (ds : List ℕ) (J J' N N' : List Polynomial) → ArePolynomials F J
+    → SameIdeal F J J' → SameIdeal F N N' → DependsOnIdeals F f ds J J' N N'
 
 -- The steps for b digits, the last one first, reach the root at b of f^a J, where a is the number that the digits write.
 abbrev pub DigitsReachRoot : Type 0
@@ -16,11 +27,22 @@ DigitsReachRoot =
     (F : Field) → IsField F → (f : Polynomial) → IsPolynomial F f → (ds : List ℕ) (J N : List Polynomial) → ArePolynomials F J
     → FollowsDigits F f ds J N → IsRoot F (F.characteristic ^ length ds) (multiples F (power F f (value_of F.characteristic ds)) J) N
 
--- Where a chain is after k periods of b digits that write a: with A = a (1 + p^b + .. + p^((k-1)b)), the chain from (f) is at
--- the root of f^(A+1) at k b, and the chain from (1) at that of f^A.
+-- A chain goes on by one period. Where no two neighbours were one ideal, and the last ideal and the next one aren't, no two
+-- neighbours of the longer chain are.
+pub record GoesOn (F : Field) (f : Polynomial) (period : List ℕ) (first : List Polynomial) (lists : List (List Polynomial)) (last next : List Polynomial) : Type 0 where
+  pub chain : IsChain F f period first lists last → FollowsDigits F f period last next → IsChain F f period first (lists ++ next ∷ []) next
+  pub strict : IsChain F f period first lists last → (Repeats F (chain_at first lists) (length lists) → ⊥) → (SameIdeal F last next → ⊥)
+      → Repeats F (chain_at first (lists ++ next ∷ [])) (length (lists ++ next ∷ [])) → ⊥
+
+abbrev pub ChainsGoOn : Type 0
+ChainsGoOn =
+    (F : Field) → IsField F → (f : Polynomial) → IsPolynomial F f → (period : List ℕ) (first : List Polynomial) → ArePolynomials F first
+    → (lists : List (List Polynomial)) (last next : List Polynomial) → ArePolynomials F next → GoesOn F f period first lists last next
+
+-- After k periods the chain from (f) is at its root at k b, and the chain from (1) at its own.
 pub record IsRootAfterPeriods (F : Field) (f : Polynomial) (period : List ℕ) (lists : List (List Polynomial)) (last : List Polynomial) : Type 0 where
-  pub from_f : IsChain F f period (f ∷ []) lists last → IsRoot F (F.characteristic ^ (length lists * length period)) (power F f (repeated_value (F.characteristic ^ length period) (value_of F.characteristic period) (length lists) + 1) ∷ []) last
-  pub from_one : IsChain F f period (term 1 origin ∷ []) lists last → IsRoot F (F.characteristic ^ (length lists * length period)) (power F f (repeated_value (F.characteristic ^ length period) (value_of F.characteristic period) (length lists)) ∷ []) last
+  pub from_f : IsChain F f period (f ∷ []) lists last → IsRisingAfter F f period (length lists) last
+  pub from_one : IsChain F f period (term 1 origin ∷ []) lists last → IsFallingAfter F f period (length lists) last
 
 abbrev pub ChainsAreRoots : Type 0
 ChainsAreRoots =
@@ -56,6 +78,10 @@ abbrev pub DigitsReachLimits : Type 0
 DigitsReachLimits =
     (F : Field) → IsField F → (f : Polynomial) → IsPolynomial F f → (t : Fraction) → IsInUnitInterval t
     → (d : Expansion) → IsExpansion F.characteristic t d → IsReachedByDigits F f t d
+
+-- Digits that are not all zero write a number above zero.
+abbrev pub NonzeroDigitsWriteNonzero : Type 0
+NonzeroDigitsWriteNonzero = (p : ℕ) → 0 < p → (ds : List ℕ) → Any (λ d. 0 < d) ds → 0 < value_of p ds
 
 -- For b digits that write a > 0, and u = a/(p^b - 1): the limit of the chain is the test ideal at u where it starts at (f),
 -- and the left limit where it starts at (1).

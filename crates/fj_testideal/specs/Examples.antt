@@ -9,7 +9,7 @@ use Rattle.fj_theory.specs.Digits.{digits, IsExpansion}
 use Rattle.fj_theory.specs.Root.{IsRoot}
 use Rattle.fj_testideal.specs.TestIdeal.{IsTestIdeal, IsLeftLimit}
 use Rattle.fj_testideal.specs.Jump.{IsJump}
-use Rattle.fj_testideal.specs.Chain.{FollowsDigits, IsLimit}
+use Rattle.fj_testideal.specs.Chain.{FollowsDigits, IsLimit, IsNumberOfRisingPeriods, IsNumberOfFallingPeriods}
 
 -- x^n, x the first variable.
 abbrev pub x : ℕ → Polynomial
@@ -43,10 +43,12 @@ abbrev pub FallingChainStartsAtOne : Type 0
 FallingChainStartsAtOne = (F : Field) → IsField F → F.characteristic ≡ 2 → StartsAtOne F
 
 -- The lowest digit comes first: for f = x^5 and t = 1/3, whose period has the digits 0 and 1, the chain that uses 1 before 0
--- has the limit (x), which is tau(f^t), and the chain that uses 0 before 1 has the limit (x^3).
+-- has the limit (x), which is tau(f^t), and the chain that uses 0 before 1 has the limit (x^3). The first chain goes over (x^2)
+-- and (x) to (x), so its number of periods is 3.
 pub record UsesLowestFirst (F : Field) : Type 0 where
   pub digits_of_third : digits F.characteristic third 0 2 ≡ 0 ∷ 1 ∷ []
   pub limit : IsLimit F (x 5) (0 ∷ 1 ∷ []) (x 5 ∷ []) (x 1 ∷ [])
+  pub number : IsNumberOfRisingPeriods F (x 5) (0 ∷ 1 ∷ []) 3
   pub other_limit : IsLimit F (x 5) (1 ∷ 0 ∷ []) (x 5 ∷ []) (x 3 ∷ [])
   pub test_ideal : IsTestIdeal F (x 5) third (x 1 ∷ [])
   pub apart : IsTestIdeal F (x 5) third (x 3 ∷ []) → ⊥
@@ -72,6 +74,7 @@ pub record IsCuspOverFive : Type 0 where
   pub limit_from_f : IsLimit (prime_field 5) cusp (4 ∷ []) (cusp ∷ []) (cusp ∷ [])
   pub digits_from_f : FollowsDigits (prime_field 5) cusp (3 ∷ []) (cusp ∷ []) (xy 0 1 ∷ xy 1 0 ∷ [])
   pub limit_from_one : IsLimit (prime_field 5) cusp (4 ∷ []) (xy 0 0 ∷ []) (xy 0 1 ∷ xy 1 0 ∷ [])
+  pub number_from_one : IsNumberOfFallingPeriods (prime_field 5) cusp (4 ∷ []) 2
   pub digits_from_one : FollowsDigits (prime_field 5) cusp (3 ∷ []) (xy 0 1 ∷ xy 1 0 ∷ []) (xy 0 0 ∷ [])
   pub test_ideal : IsTestIdeal (prime_field 5) cusp four_fifths (xy 0 1 ∷ xy 1 0 ∷ [])
   pub left_limit : IsLeftLimit (prime_field 5) cusp four_fifths (xy 0 0 ∷ [])

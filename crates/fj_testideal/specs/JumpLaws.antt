@@ -1,13 +1,12 @@
 -- Laws of F-jumping numbers and of constancy, which the law functions prove (Blickle, Mustață and Smith 2008, section 2).
-use Rattle.std.specs.Prelude.{◌≡◌, ◌↔◌, ℕ, ◌^◌, ◌<◌, List, [], ◌∷◌, Some}
+use Rattle.std.specs.Prelude.{◌≡◌, ◌↔◌, ℕ, ◌<◌, List, Some}
 use Rattle.std.specs.declared.cmp.Ordering.TheVariants.{Less}
 use Rattle.fj_coeff.specs.Field.{Field, IsField}
-use Rattle.fj_theory.specs.Polynomial.{Polynomial, IsPolynomial, power, degree}
+use Rattle.fj_theory.specs.Polynomial.{Polynomial, IsPolynomial, degree}
 use Rattle.fj_theory.specs.Ideal.{SameIdeal}
 use Rattle.fj_theory.specs.Fraction.{IsAtMost, Fraction, compare}
-use Rattle.fj_theory.specs.Root.{IsRoot}
 use Rattle.fj_testideal.specs.TestIdeal.{IsTestIdeal, IsLeftLimit}
-use Rattle.fj_testideal.specs.Jump.{IsJump, IsBetween, IsConstant}
+use Rattle.fj_testideal.specs.Jump.{IsJump, IsConstant, HoldsChange}
 
 -- t > 0 is an F-jumping number exactly where the test ideal and the left limit at t differ.
 abbrev pub JumpsAreDifferences : Type 0
@@ -28,13 +27,6 @@ pub record IsDecidedByEnds (F : Field) (f : Polynomial) (s t : Fraction) : Type 
 
 abbrev pub ConstancyByEnds : Type 0
 ConstancyByEnds = (F : Field) → IsField F → (f : Polynomial) → IsPolynomial F f → (s t : Fraction) → compare s t ≡ Less → IsDecidedByEnds F f s t
-
--- A change on [s, t): a number m/p^e in it at which the test ideal isn't (S).
-pub record HoldsChange (F : Field) (f : Polynomial) (s t : Fraction) (S : List Polynomial) : Type 0 where
-  pub e : ℕ
-  pub m : ℕ
-  pub between : IsBetween s t m (F.characteristic ^ e)
-  pub differs : IsRoot F (F.characteristic ^ e) (power F f m ∷ []) S → ⊥
 
 -- Where tau isn't constant on [s, t), for s below t, there is a number m/p^e in [s, t) at which it isn't tau(f^s).
 abbrev pub OpenGapsHoldChanges : Type 0

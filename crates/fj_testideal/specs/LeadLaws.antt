@@ -1,15 +1,15 @@
 -- Laws of chains of ideals that are generated in bounded degree, which the law functions prove.
-use Rattle.std.specs.Prelude.{◌≡◌, ◌≢◌, ◌⊎◌, ℕ, zero, suc, ◌+◌, ◌*◌, ◌^◌, ◌<◌, ◌≤◌, List, [], ◌∷◌, length, slice_index_or, All, AllPairs, Contains, Some}
+use Rattle.std.specs.Prelude.{◌≡◌, ◌≢◌, ◌⊎◌, ℕ, zero, suc, ◌+◌, ◌*◌, ◌^◌, ◌<◌, ◌≤◌, List, [], ◌∷◌, length, All, AllPairs, Contains, Some}
 use Rattle.fj_coeff.specs.Field.{Field, IsField}
 use Rattle.fj_algebra.specs.StrictSteps.{monomial_count}
 use Rattle.fj_theory.specs.Exponents.{origin, total}
 use Rattle.fj_theory.specs.MonomialOrder.{grevlex_key}
-use Rattle.fj_theory.specs.Polynomial.{Polynomial, IsPolynomial, coefficient, degree, power, term}
+use Rattle.fj_theory.specs.Polynomial.{Polynomial, IsPolynomial, coefficient, degree, product, power, term}
 use Rattle.fj_theory.specs.Parts.{Part, IsParts}
 use Rattle.fj_theory.specs.Ideal.{ArePolynomials, Inside, SameIdeal}
 use Rattle.fj_theory.specs.Root.{IsRoot}
 use Rattle.fj_groebner.specs.ReducedBasis.{IsReducedBasis}
-use Rattle.fj_testideal.specs.Chain.{FollowsDigits, IsChain}
+use Rattle.fj_testideal.specs.Chain.{FollowsDigits, IsChain, chain_at, Repeats}
 use Rattle.fj_testideal.specs.BoundedIdeal.{Variables, number_of, occurs_in, IsBoundedMonomial, IsBounded, IsBoundedIdeal, IsLeadIn, AreLeads}
 
 -- Nested ideals, both generated in bounded degree, with the same leads of bounded degree are equal.
@@ -62,10 +62,6 @@ pub record IsBoundedChain (F : Field) (vars : Variables) (bound : ℕ) (chain : 
   pub bounded : (i : ℕ) → i ≤ last → IsBoundedIdeal F vars bound (chain i)
   pub are_leads : (i : ℕ) → i ≤ last → AreLeads F vars bound (chain i) (leads i)
 
--- The chain repeats: two neighbours among its ideals up to the place are equal.
-abbrev pub Repeats : (F : Field) → (ℕ → List Polynomial) → ℕ → Type 0
-Repeats F chain last = (i : ℕ) × (i < last) × SameIdeal F (chain i) (chain (suc i))
-
 -- A rising chain with more than C(n + D, n) steps repeats.
 abbrev pub RisingChainRepeats : Type 0
 RisingChainRepeats =
@@ -78,23 +74,36 @@ FallingChainRepeats =
     (F : Field) → IsField F → (vars : Variables) (bound : ℕ) (chain : ℕ → List Polynomial) (last : ℕ) → IsBoundedChain F vars bound chain last
     → ((i : ℕ) → i < last → Inside F (chain (suc i)) (chain i)) → monomial_count (number_of vars) bound < last → Repeats F chain last
 
--- The parts at e of f^m, m <= p^e, have degree at most (m deg f)/p^e, so at most deg f, and no other variables than f has.
+-- The parts at e of a polynomial in some variables of degree at most B have degree at most B/p^e in those variables.
 abbrev pub PartsAreBounded : Type 0
 PartsAreBounded =
-    (F : Field) → IsField F → (e m d : ℕ) (f : Polynomial) → IsPolynomial F f → degree f ≡ Some d → m ≤ F.characteristic ^ e
-    → (parts : List Part) → IsParts F (F.characteristic ^ e) (power F f m) parts
-    → All (λ part. IsBounded F (occurs_in f) d part.polynomial
-    × ((a : List ℕ) → 0 < coefficient part.polynomial a → F.characteristic ^ e * total a ≤ m * d)) parts
+    (F : Field) → IsField F → (vars : Variables) (e bound D : ℕ) (h : Polynomial) → IsBounded F vars bound h → bound ≤ F.characteristic ^ e * D
+    → (parts : List Part) → IsParts F (F.characteristic ^ e) h parts
+    → All (λ part. IsBounded F vars D part.polynomial
+    × ((a : List ℕ) → 0 < coefficient part.polynomial a → F.characteristic ^ e * total a ≤ bound)) parts
 
--- The root at e of f^m, m <= p^e, is generated in degree at most deg f in the variables of f.
+-- The root at e of polynomials in some variables of degree at most p^e D is generated in degree at most D in those variables.
 abbrev pub RootsAreBounded : Type 0
 RootsAreBounded =
+    (F : Field) → IsField F → (vars : Variables) (e D : ℕ) (L M : List Polynomial) → All (IsBounded F vars (F.characteristic ^ e * D)) L
+    → IsRoot F (F.characteristic ^ e) L M → IsBoundedIdeal F vars D M
+
+-- A product has at most the sum of the degrees, and no other variables than the factors have. So f^m has degree at most
+-- m deg f, and no other variables than f has.
+abbrev pub ProductsAreBounded : Type 0
+ProductsAreBounded =
+    (F : Field) → IsField F → (vars : Variables) (a b : ℕ) (f g : Polynomial) → IsBounded F vars a f → IsBounded F vars b g
+    → IsBounded F vars (a + b) (product F f g)
+
+abbrev pub PowersAreBounded : Type 0
+PowersAreBounded =
+    (F : Field) → IsField F → (f : Polynomial) → IsPolynomial F f → (m d : ℕ) → degree f ≡ Some d → IsBounded F (occurs_in f) (m * d) (power F f m)
+
+-- So the root at e of f^m, m <= p^e, is generated in degree at most deg f in the variables of f.
+abbrev pub RootsOfPowersAreBounded : Type 0
+RootsOfPowersAreBounded =
     (F : Field) → IsField F → (e m d : ℕ) (f : Polynomial) (M : List Polynomial) → IsPolynomial F f → degree f ≡ Some d → m ≤ F.characteristic ^ e
     → IsRoot F (F.characteristic ^ e) (power F f m ∷ []) M → IsBoundedIdeal F (occurs_in f) d M
-
--- The list at a place of a chain that starts with the first list.
-abbrev pub chain_at : List Polynomial → List (List Polynomial) → ℕ → List Polynomial
-chain_at first lists i = slice_index_or (first ∷ lists) i first
 
 -- For digits below p: a further period of the chain from (f) gives the same ideal or one with more leads, and of the chain
 -- from (1) the same or one with fewer. Leads are those of degree at most deg f in the variables of f.

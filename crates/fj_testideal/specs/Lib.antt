@@ -5,6 +5,7 @@ pub mod Threshold
 pub mod Chain
 pub mod BoundedIdeal
 pub mod LeadLaws
+pub mod PeriodLaws
 pub mod ChainLaws
 pub mod TestIdealLaws
 pub mod JumpLaws

@@ -2,7 +2,17 @@
 //! one digit of the exponent at a time. A function of this module does nothing: its clause is the theorem, and the check
 //! proves it.
 
-ghost use Rattle.fj_testideal.specs.ChainLaws.{ChainsAreMonotone, ChainsAreRoots, DigitsReachLimits, DigitsReachRoot, PeriodsReachLimits, RepeatsStay};
+ghost use Rattle.fj_testideal.specs.ChainLaws.{ChainsAreMonotone, ChainsAreRoots, ChainsDependOnIdeals, ChainsGoOn, DigitsReachLimits, DigitsReachRoot, NonzeroDigitsWriteNonzero, PeriodsReachLimits, RepeatsStay};
+
+/// Steps, chains and limits depend on the ideals alone, and not on the lists that generate them.
+pub fn chains_depend_on_ideals()
+    ensures { ChainsDependOnIdeals }
+{}
+
+/// A chain goes on by one period, and stays without a repeat where the next ideal is another one.
+pub fn chains_go_on()
+    ensures { ChainsGoOn }
+{}
 
 /// The steps for the digits of a number reach the root of that power of f.
 pub fn digits_reach_root()
@@ -33,4 +43,9 @@ pub fn digits_reach_limits()
 /// The limits of a period's chains are the test ideal and the left limit at the value of the period.
 pub fn periods_reach_limits()
     ensures { PeriodsReachLimits }
+{}
+
+/// A nonzero digit gives a nonzero number.
+pub fn nonzero_digits_write_nonzero()
+    ensures { NonzeroDigitsWriteNonzero }
 {}

@@ -8,5 +8,6 @@ pub mod examples;
 pub mod jumps;
 pub mod leads;
 pub mod lists;
+pub mod periods;
 pub mod test_ideals;
 pub mod thresholds;
