@@ -7,5 +7,3 @@
 pub mod laws;
 pub mod polynomials;
 pub mod splittings;
-#[cfg(test)]
-mod tests;
