@@ -19,6 +19,3 @@ pub use calculation::basis;
 pub use division::divide;
 pub use stop::Stop;
 pub use types::copy_list;
-
-#[cfg(test)]
-mod tests;

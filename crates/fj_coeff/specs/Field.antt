@@ -1,9 +1,18 @@
 -- Finite fields on ranks: the elements are numbered from 0, and an element is seen as its number, its rank.
-use Rattle.std.specs.Prelude.{◌≡◌, ℕ, zero, suc, ◌<◌, ◌≤◌, Contains, List, [], ◌∷◌}
+use Rattle.std.specs.Prelude.{◌≡◌, ℕ, zero, suc, ◌<◌, ◌≤◌, ◌==◌, Bool, Contains, List, [], ◌∷◌}
+use Rattle.std.specs.List.{list_any}
 
 -- The primes that a coefficient field may have as its characteristic.
 unfoldable pub primes : List ℕ
 primes = 2 ∷ 3 ∷ 5 ∷ 7 ∷ 11 ∷ 13 ∷ []
+
+-- The greatest of them.
+abbrev pub greatest_prime : ℕ
+greatest_prime = 13
+
+-- Whether a number is one of them, as a test.
+unfoldable pub is_prime : ℕ → Bool
+is_prime n = list_any (λ p. n == p) primes
 
 -- The operations of a field of `size` elements and of characteristic p. Zero has rank 0 and one has rank 1.
 pub record Field : Type 0 where

@@ -1,3 +1,4 @@
 pub mod Field
 pub mod PrimeField
 pub mod PrimeFieldLaws
+pub mod PrimeTest

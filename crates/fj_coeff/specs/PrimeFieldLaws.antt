@@ -8,10 +8,10 @@ use Rattle.std.proofs.lemmas.Bool.{ltb-true}
 use Rattle.std.proofs.lemmas.List.Elements.{All-contains}
 use Rattle.std.proofs.lemmas.List.Sums.{AllPass-from_list_all}
 use Rattle.std.proofs.lemmas.Nat.{mul-le, mod_below, mul-mod_first, mul-mod_second}
-use Rattle.std.proofs.Math.Nat.{mod-add-mod, add-mod-mod, mod-eq_of_lt, mod_self, pow-suc}
+use Rattle.std.proofs.Math.Nat.{mod-add-mod, add-mod-mod, mod-eq_of_lt, mod_self, pow-suc, pow-le-pow_left, pow-le-pow_right}
 use mathlib.Core.HLevel.{Σ_prop_path}
 use denote.Struct.Props.{props}
-use Rattle.fj_coeff.specs.Field.{Field, IsField, power, multiple, primes}
+use Rattle.fj_coeff.specs.Field.{Field, IsField, power, multiple, primes, greatest_prime, is_prime}
 use Rattle.fj_coeff.specs.PrimeField.{prime_field}
 
 -- what is computed at each number below p
@@ -86,12 +86,13 @@ IsField-prime_field p prime =
       power_root = known.powers;
     }
 
--- The primes are above 1 and below 14.
-pub prime_bounds : (p : ℕ) → Contains primes p → (1 < p) × (p < 14)
+-- The primes are above 1, and at most the greatest.
+pub prime_bounds : (p : ℕ) → Contains primes p → (1 < p) × (p ≤ greatest_prime)
 unfolding primes
 prime_bounds p prime =
-    let below : ltb p 14 ≡ true = All-contains (λ q. ltb q 14 ≡ true) primes p (AllPass-from_list_all (λ q. ltb q 14) primes refl) prime in
-    ((computed p (primes_pass p prime)).large, ltb-true p 14 below)
+    let below : ltb p (suc greatest_prime) ≡ true = All-contains (λ q. ltb q (suc greatest_prime) ≡ true) primes p (AllPass-from_list_all (λ q. ltb q (suc greatest_prime)) primes refl) prime in
+    let small : p < suc greatest_prime = ltb-true p (suc greatest_prime) below in
+    ((computed p (primes_pass p prime)).large, omega arith)
 
 -- A sum and a product of two numbers below a prime fit a machine word.
 pub prime_sum_fits : (p a b : ℕ) → Contains primes p → a < p → b < p → a + b < 2 ^ 64
@@ -99,8 +100,17 @@ prime_sum_fits p a b prime ha hb = omega (arith, (prime_bounds p prime).1)
 
 pub prime_product_fits : (p a b : ℕ) → Contains primes p → a < p → b < p → a * b < 2 ^ 64
 prime_product_fits p a b prime ha hb =
-    let small : p < 14 = (prime_bounds p prime).1 in
-    let product : a * b ≤ 14 * 14 = mul-le a b 14 14 (omega arith) (omega arith) in
+    let small : p ≤ greatest_prime = (prime_bounds p prime).1 in
+    let product : a * b ≤ greatest_prime * greatest_prime = mul-le a b greatest_prime greatest_prime (omega arith) (omega arith) in
+    omega arith
+
+-- The powers of a prime up to the twelfth fit a machine word.
+pub prime_power_fits : (p e : ℕ) → Contains primes p → e ≤ 12 → p ^ e < 2 ^ 64
+prime_power_fits p e prime small =
+    let bounds = prime_bounds p prime in
+    let lower : p ^ e ≤ p ^ 12 = pow-le-pow_right (omega (arith, bounds.0)) small in
+    let greatest : p ^ 12 ≤ greatest_prime ^ 12 = pow-le-pow_left bounds.1 12 in
+    let fits : greatest_prime ^ 12 < 2 ^ 64 = lit< tt in
     omega arith
 
 -- One more factor of a power modulo p.

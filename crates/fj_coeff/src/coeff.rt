@@ -17,7 +17,7 @@ pub trait Coeff: Copy + Eq {
 
     ghost SIZE: { ℕ };
 
-    /// The characteristic: one of the primes 2, 3, 5, 7, 11 and 13.
+    /// The characteristic, one of `PRIMES`.
     const P: u64;
 
     /// The number of elements.

@@ -1,9 +1,13 @@
-//! Coefficient fields: the trait `Coeff` of finite fields on ranks, and GF(p) for the primes 2, 3, 5, 7, 11 and 13.
-//! Nothing here takes memory.
+//! Coefficient fields: the trait `Coeff` of finite fields on ranks, GF(p) for the primes of a table, and the choice of the
+//! field for a prime. Nothing here takes memory.
 #![tactic(auto)]
 
+mod choice;
 mod coeff;
 mod prime;
+mod table;
 
+pub use choice::{OverField, over_prime_field};
 pub use coeff::Coeff;
-pub use prime::{Fp, Primes, TablePrime};
+pub use prime::Fp;
+pub use table::{PRIMES, Primes, TablePrime, is_prime};

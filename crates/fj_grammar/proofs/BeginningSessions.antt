@@ -4,7 +4,8 @@ use Rattle.std.specs.List.{filter}
 use Rattle.std.specs.Option.{is_some, option_map_or}
 use Rattle.std.proofs.lemmas.Bool.{cases_lt, leb-false, leb-true, lt-ltb}
 use Rattle.std.proofs.lemmas.List.{append-nil, get_or-map, length-append, length-map}
-use Rattle.fj_coeff.specs.Field.{primes}
+use Rattle.fj_coeff.specs.Field.{is_prime, primes}
+use Rattle.fj_coeff.specs.PrimeTest.{prime_tested}
 use Rattle.fj_plain.specs.declared.order_name.OrderName.{OrderName}
 use Rattle.fj_text.specs.Grammar.{tokens_left}
 use Rattle.fj_text.specs.State.{State, after, end_of, next}
@@ -26,7 +27,6 @@ use Rattle.fj_script.specs.LineFault.{◌>>=◌, fault_at}
 use Rattle.fj_grammar.specs.Rank as rank
 use Rattle.fj_grammar.specs.Wrong as wrong
 use Rattle.fj_grammar.specs.Wrong.{IsWrong}
-use Rattle.fj_grammar.proofs.GrammarComplete.{prime_tested}
 use Rattle.fj_grammar.proofs.NamesOf.{found_among}
 use Rattle.fj_script.specs.declared.fault.FaultKind.{FaultKind}
 use Rattle.std.proofs.lemmas.List.Elements.{Contains-append_left}
@@ -115,7 +115,7 @@ module _ (s0 : State) where
       plain : Reading s0 (behind_lines None) (λ e. e) (λ p us. us ≡ Number p ∷ []) (Word (codes "ring") ∷ []) (rings.prime t)
       plain =
           then_reading s0 (behind_lines None) (λ e. e) _ (number_reading s0 (behind_lines None) (Word (codes "ring") ∷ []) t H.reached ring_begins)
-          (λ n us u e Hu. reading_if s0 (behind_lines None) (λ e. e) (rings.is_prime n) _ _ (λ _. read us e Hu) (λ no. stuck (late s0 (behind_lines None) Hu ((2, subst (λ ts. MayFollow None ts (Number 2)) (init_is s0 (behind_lines None) (Word (codes "ring") ∷ []) us [] (Number n) Hu e) (inl ring_with_prime)), number_first s0 (behind_lines None) kinds.Prime (Word (codes "ring") ∷ []) us [] n Hu e (wrong.no_prime (λ known. absurd (let both = sym no ∙ prime_tested n known in cc)))))))
+          (λ n us u e Hu. reading_if s0 (behind_lines None) (λ e. e) (is_prime n) _ _ (λ _. read us e Hu) (λ no. stuck (late s0 (behind_lines None) Hu ((2, subst (λ ts. MayFollow None ts (Number 2)) (init_is s0 (behind_lines None) (Word (codes "ring") ∷ []) us [] (Number n) Hu e) (inl ring_with_prime)), number_first s0 (behind_lines None) kinds.Prime (Word (codes "ring") ∷ []) us [] n Hu e (wrong.no_prime (λ known. absurd (let both = sym no ∙ prime_tested n known in cc)))))))
 
   module _ (p : ℕ) (known : Contains primes p) where
     variable_more : (vs : List (List ℕ)) (us : List Token) (t : State) → Variables vs us → SoFar s0 (behind_lines None) ((Word (codes "ring") ∷ Number p ∷ []) ++ (us ++ Sign comma ∷ [])) t

@@ -12,6 +12,7 @@ use Rattle.std.proofs.Math.Nat.{pow-le-pow_left}
 use Rattle.std.proofs.Math.Pow.{pow-lt}
 use Rattle.fj_coeff.specs.Field.{primes}
 use Rattle.fj_coeff.specs.PrimeFieldLaws.{IsField-prime_field, prime_bounds}
+use Rattle.fj_coeff.specs.PrimeTest.{prime_tested}
 use Rattle.fj_theory.specs.Fraction.{Fraction}
 use Rattle.fj_plain.specs.declared.order_name.OrderName.TheVariants as orders
 use Rattle.fj_text.specs.Grammar.{AreBehind, tokens_left}
@@ -49,7 +50,6 @@ use Rattle.fj_script.specs.Statement as statements
 use Rattle.fj_grammar.proofs.GrammarSound.{ask_word, keyword_word, line_tokens}
 use Rattle.fj_grammar.proofs.GrammarTokens.{IsRead, behind_closing, done, enclosed_read, end_is, listed_read, narrow_read, next_read, no_next, number_read, otherwise_read, sign_is, then_is, then_read, word_read}
 use Rattle.fj_grammar.proofs.Meanings.{expression_along, in_session}
-use Rattle.fj_script.proofs.Primes.{same_test}
 use Rattle.fj_script.proofs.NewNames.{pairs_more}
 use Rattle.fj_script.proofs.Ratios.{of_taken}
 
@@ -358,9 +358,6 @@ module _ (S : Session) (H : IsSane S) where
       ap (λ b. cond b (Err (fault_at faults.Many s)) (question.question_at S s >>= λ q. at_end (ask S q.0, q.1))) (lt-leb 4096 (length S.asked) few) ∙ then_is _ (question_read s ts q h e) (λ t k. end_is (ask S q) t k)
 
 -- ---- the ring
-
-pub prime_tested : (p : ℕ) → Contains primes p → rings.is_prime p ≡ true
-prime_tested p known = sym (same_test true p (λ yes. known, λ listed. refl))
 
 prime_read : (s : State) (p : ℕ) (rest : List Token) → Contains primes p → tokens_left s ≡ Number p ∷ rest → IsRead (rings.prime s) p rest
 unfolding rings.prime

@@ -7,9 +7,10 @@ use Rattle.std.proofs.lemmas.List.{append-nil, length-append, map-append}
 use Rattle.std.proofs.lemmas.List.Sums.{sum_by-append}
 use Rattle.std.proofs.lemmas.Option.{none-some, same_Some}
 use Rattle.std.proofs.lemmas.Slice.Eq.{bytes_eq-Decides}
-use Rattle.fj_coeff.specs.Field.{primes}
+use Rattle.fj_coeff.specs.Field.{is_prime, primes}
 use Rattle.fj_coeff.specs.PrimeField.{prime_field}
 use Rattle.fj_coeff.specs.PrimeFieldLaws.{IsField-prime_field}
+use Rattle.fj_coeff.specs.PrimeTest.{prime_listed}
 use Rattle.fj_theory.specs.Fraction.{Fraction}
 use Rattle.fj_theory.specs.Polynomial.{Polynomial}
 use Rattle.fj_plain.specs.declared.order_name.OrderName.{OrderName}
@@ -51,7 +52,6 @@ use Rattle.fj_script.specs.Ring as rings
 use Rattle.fj_script.specs.Script as script
 use Rattle.fj_script.specs.Session.{Session, Terms, Poly, Ideal, Point, ask, declare, new_session, terms_in}
 use Rattle.fj_script.specs.Statement as statements
-use Rattle.fj_script.proofs.AcceptedPrimes.{prime_listed}
 use Rattle.fj_script.proofs.AcceptedYields.{Yields, yielded, yields_if, yields_option, yields_then}
 use Rattle.fj_grammar.proofs.GrammarPieces.{IsDeclared, Named, Numbered, as_ideal, as_point, declared_takes, exponent_takes, ideal_takes, level_takes, new_name_takes, nonconstant_takes, nothing_found, point_by_takes, polynomial_takes, ratio_takes, within_takes}
 use Rattle.fj_grammar.proofs.GrammarTokens.{Takes, end_takes, enclosed_takes, listed_takes, narrow_takes, number_takes, on_next, on_sign, sign_takes, word_of_takes, word_takes}
@@ -439,10 +439,10 @@ variable_takes vs s fits =
     Q r = Takes IsVariable s r × ((length (vs ++ r.0 ∷ []) ≤ 7) × AllPairs (λ v w. v ≢ w) (vs ++ r.0 ∷ []))
 
 pub prime_takes : (s : State) → Yields (λ p. (tokens_left s ≡ Number p.0 ∷ tokens_left p.1) × Contains primes p.0) (rings.prime s)
-unfolding rings.prime rings.is_prime
+unfolding rings.prime
 prime_takes s =
     yields_then (λ n. tokens_left s ≡ Number n.0 ∷ tokens_left n.1) (λ p. (tokens_left s ≡ Number p.0 ∷ tokens_left p.1) × Contains primes p.0) _ _ (number_takes s)
-    (λ n h. yields_if (λ p. (tokens_left s ≡ Number p.0 ∷ tokens_left p.1) × Contains primes p.0) (rings.is_prime n.0) _ _ (λ e. (h, prime_listed n.0 e)) (λ _. tt))
+    (λ n h. yields_if (λ p. (tokens_left s ≡ Number p.0 ∷ tokens_left p.1) × Contains primes p.0) (is_prime n.0) _ _ (λ e. (h, prime_listed n.0 e)) (λ _. tt))
 
 ring_takes : (s : State) → Yields (IsRing (Word (codes "ring") ∷ tokens_left s)) (rings.ring s)
 unfolding rings.ring

@@ -1,7 +1,7 @@
 -- Two lines that begin with the same tokens: each rule of sessions reads them alike.
 use Rattle.std.proofs.Common.{◌≡◌, ℕ, zero, suc, ◌+◌, ◌%◌, ◌^◌, ◌==◌, Bool, true, false, cond, ◌||◌, leb, ltb, eqb, List, [], ◌∷◌, ◌++◌, ◌≤◌, length, All, Option, Some, None, Result, Ok, Err, refl, ap, subst, inl, inr}
 use Rattle.std.specs.Option.{is_some, option_map, option_map_or}
-use Rattle.fj_coeff.specs.Field.{Field}
+use Rattle.fj_coeff.specs.Field.{Field, is_prime}
 use Rattle.fj_coeff.specs.PrimeField.{prime_field}
 use Rattle.fj_theory.specs.MonomialOrder.{grevlex_key}
 use Rattle.fj_theory.specs.Polynomial.{Polynomial, negation, product, sum, terms_falling}
@@ -380,7 +380,7 @@ module _ (M : Type 0) (b c : ℕ) (r q : List Placed) (H : AreBehindBoth M b c r
 
   prime_rule : Rule true false rings.prime
   unfolding rings.prime
-  prime_rule = then true number _ number_rule (λ n. either false (rings.is_prime n) _ _ (value n) (wrong_at kinds.Prime))
+  prime_rule = then true number _ number_rule (λ n. either false (is_prime n) _ _ (value n) (wrong_at kinds.Prime))
 
   ring_variable_rule : (vs : List (List ℕ)) → Rule false false (rings.variable vs)
   unfolding rings.variable

@@ -6,6 +6,3 @@ mod membership;
 mod operations;
 
 pub use ideal::Ideal;
-
-#[cfg(test)]
-mod tests;

@@ -3,6 +3,5 @@ pub mod Raised
 pub mod NonzeroEntries
 pub mod Entries
 pub mod Each
-pub mod Powers
 pub mod Distinct
 pub mod Directions

@@ -6,10 +6,8 @@ ghost use Rattle.fj_theory.specs.Certificate.{AllRanksBelow, AllRowsBelow, HasPa
 use crate::lists::{PlainList, PlainTable};
 use crate::plain::PlainPoly;
 use crate::tally::Tally;
+use fj_coeff::is_prime;
 use std::alloc::{AllocError, Global};
-
-/// The primes of the coefficient fields.
-const PRIMES: [u64; 6] = [2, 3, 5, 7, 11, 13];
 
 /// The greatest exponent e of the powers p^e of a certificate.
 const EXPONENT_LIMIT: u32 = 12;
@@ -75,13 +73,6 @@ pub(crate) fn are_sums_of_parts(
         }
     }
     Ok(true)
-}
-
-// Whether p is one of the primes of the coefficient fields.
-fn is_prime(p: u64) -> bool
-    ensures { IsTrue result ↔ Contains primes p }
-{
-    PRIMES.contains(&p)
 }
 
 // Whether each target is the sum over j of row_j * source_j, by its own row of the table.

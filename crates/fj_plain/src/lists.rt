@@ -166,25 +166,3 @@ pub struct Kept {
     pub order: OrderName,
     pub list: PlainList,
 }
-
-#[cfg(test)]
-mod tests {
-    use super::*;
-    use std::alloc::AllocError;
-
-    #[test]
-    fn lists(rt: HostRuntime) -> Result<(), AllocError> {
-        let point = PlainPoint::of(vec![in rt.alloc(); 0, 3]?);
-        assert_eq!(rt; point.len(), 2);
-        assert_eq!(rt; *point.get(1), 3);
-        let table = PlainTable::of(Vec::new(rt.alloc()));
-        assert_eq!(rt; table.len(), 0);
-        let kept = Kept {
-            order: OrderName::of(3),
-            list: PlainList::of(Vec::new(rt.alloc())),
-        };
-        assert!(rt; kept.order == OrderName::Elim);
-        assert_eq!(rt; kept.list.len(), 0);
-        Ok(())
-    }
-}

@@ -7,6 +7,3 @@ mod poly;
 pub use fault::PolyFault;
 pub use poly::point::Point;
 pub use poly::{GPoly, Poly};
-
-#[cfg(test)]
-mod tests;

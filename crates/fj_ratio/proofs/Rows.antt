@@ -1,6 +1,6 @@
 -- The list of candidates as it is made: rows of fractions with one denominator each, then a sort and a removal of repeats.
 use Rattle.std.proofs.Common.{◌≡◌, ℕ, suc, ◌+◌, ◌-◌, ◌*◌, ◌^◌, ◌<◌, ◌≤◌, List, [], ◌∷◌, ◌++◌, All, Any, Contains, refl, sym, ap, ◌∙◌, subst, arith, inl, inr, true, append_assoc, append-nil}
-use Rattle.std.specs.Cmp.{eq_by_cmp_equiv, SameIdeal-is}
+use Rattle.std.specs.Cmp.{eq_by_cmp_equiv, Equal-is}
 use Rattle.std.specs.Ordering.{eq_by_cmp}
 use Rattle.std.specs.List.{dedup}
 use Rattle.std.specs.List.Sorted.{IsSorted, IsPermutation}
@@ -102,7 +102,7 @@ AreCandidates-from_rows p e list sorted large h moved rises =
           let row = row_from_IsCandidate p e t (omega arith) candidate in
           let found : Any (SameValue t) list = h.complete row.0 t row.1 row.2 in
           let at : Contains sorted found.1 = Contains-permutation list sorted found.1 moved (found.0, found.2, found.3) in
-          Any-weaker (λ s. eq_by_cmp compare found.1 s ≡ true) (SameValue t) (λ s tied. SameValue-trans t found.1 s found.4 (SameValue-from_compare found.1 s ((SameIdeal-is (compare found.1 s)).0 tied)))
+          Any-weaker (λ s. eq_by_cmp compare found.1 s ≡ true) (SameValue t) (λ s tied. SameValue-trans t found.1 s found.4 (SameValue-from_compare found.1 s ((Equal-is (compare found.1 s)).0 tied)))
           (dedup (eq_by_cmp compare) sorted) (Any-dedup (eq_by_cmp_equiv compare-IsTotalOrder) sorted found.1 at);
       rising = IsStrictlySortedBy-dedup compare-IsTotalOrder (λ s t. refl) sorted rises;
     }

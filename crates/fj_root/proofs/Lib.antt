@@ -1,5 +1,4 @@
 pub mod Groups
-pub mod Powers
 pub mod Gather
 pub mod Gathered
 pub mod Roots

@@ -9,6 +9,3 @@ mod root;
 pub use frobenius_power::frob_power;
 pub use part::{Part, parts};
 pub use root::{root_gens, root_list};
-
-#[cfg(test)]
-mod tests;

@@ -19,17 +19,18 @@ use Rattle.fj_script.specs.Script as script
 use Rattle.fj_script.specs.Session.{Session, ask, new_session}
 use Rattle.fj_script.specs.Statement as statements
 use Rattle.fj_script.proofs.AcceptedNumbers.{within_limits}
-use Rattle.fj_script.proofs.AcceptedPrimes.{prime_listed}
+use Rattle.fj_coeff.specs.Field.{is_prime}
+use Rattle.fj_coeff.specs.PrimeTest.{prime_listed}
 use Rattle.fj_script.proofs.AcceptedArguments.{IsSoundQuestion}
 use Rattle.fj_script.proofs.AcceptedQuestions.{question_sound}
 use Rattle.fj_script.proofs.AcceptedDeclarations.{IsSound, ask_sound, at_end_sound, ideal_sound, point_sound, poly_sound}
 use Rattle.fj_script.proofs.AcceptedYields.{Yields, Anything, yielded, yields_anything, yields_if, yields_option, yields_then}
 
 prime_read : (s : State) → Yields (λ p. Contains primes p.0) (rings.prime s)
-unfolding rings.prime rings.is_prime
+unfolding rings.prime
 prime_read s =
     yields_then Anything (λ p. Contains primes p.0) (number s) _ (yields_anything _)
-    (λ n _. yields_if (λ p. Contains primes p.0) (rings.is_prime n.0) _ _ (λ h. prime_listed n.0 h) (λ _. tt))
+    (λ n _. yields_if (λ p. Contains primes p.0) (is_prime n.0) _ _ (λ h. prime_listed n.0 h) (λ _. tt))
 
 grevlex_named : orders.Grevlex ≢ orders.Elim
 grevlex_named e = cc

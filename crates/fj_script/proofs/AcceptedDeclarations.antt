@@ -10,7 +10,7 @@ use Rattle.std.proofs.lemmas.List.Quantifiers.{position-Some}
 use Rattle.std.proofs.lemmas.List.Elements.{All-nil, All-cons, All-append, All-push, All-weaker}
 use Rattle.fj_coeff.specs.Field.{primes}
 use Rattle.fj_coeff.specs.PrimeField.{prime_field}
-use Rattle.fj_coeff.specs.PrimeFieldLaws.{IsField-prime_field}
+use Rattle.fj_coeff.specs.PrimeFieldLaws.{IsField-prime_field, prime_bounds}
 use Rattle.fj_theory.specs.Exponents.{total}
 use Rattle.fj_theory.specs.MonomialOrder.{grevlex_key}
 use Rattle.fj_theory.specs.Polynomial.{Polynomial, support, terms_falling}
@@ -33,7 +33,6 @@ use Rattle.fj_script.specs.Names as names
 use Rattle.fj_script.specs.Session.{Session, Terms, Value, Poly, Ideal, Point, ask, declare, terms_in}
 use Rattle.fj_script.proofs.AcceptedExpressions.{expression_read}
 use Rattle.fj_script.proofs.AcceptedPolynomials.{IsSmallIn, at_coefficient}
-use Rattle.fj_script.proofs.AcceptedPrimes.{prime_positive}
 use Rattle.fj_script.proofs.AcceptedArguments.{IsSoundQuestion, question_kept}
 use Rattle.fj_script.proofs.AcceptedItems.{enclosed_kept, listed_kept}
 use Rattle.fj_script.proofs.AcceptedYields.{Yields, Anything, yields_anything, yields_if, yields_option, yields_then, yields_weaker}
@@ -164,7 +163,7 @@ module _ (S : Session) (H : IsSound S) where
   unfolding declaration.constant
   constant_sound s =
       let below : ℕ × State → Type 0 = λ c. c.0 < S.prime in
-      let positive = prime_positive S.prime H.prime in
+      let positive : 0 < S.prime = omega (arith, (prime_bounds S.prime H.prime).0) in
       yields_option below (after_sign minus s) _ _
       (λ t _. yields_then Anything below (narrow t) _ (yields_anything _) (λ n _. mod_below _ S.prime positive))
       (yields_then Anything below (narrow s) _ (yields_anything _) (λ n _. mod_below n.0 S.prime positive))

@@ -4,6 +4,7 @@ use Rattle.std.proofs.lemmas.Nat.{mod_below}
 use Rattle.std.proofs.lemmas.Option.{none-some, same_Some}
 use Rattle.std.specs.Option.{option_map, option_map_or}
 use Rattle.fj_coeff.specs.Field.{Field, IsField}
+use Rattle.fj_coeff.specs.PrimeFieldLaws.{prime_bounds}
 use Rattle.fj_theory.specs.Polynomial.{Polynomial, negation, product, sum}
 use Rattle.fj_text.specs.declared.fault.Fault.{Fault}
 use Rattle.fj_text.specs.declared.scope.Meaning.{Meaning}
@@ -12,7 +13,6 @@ use Rattle.fj_text.specs.Expression as text
 use Rattle.fj_text.specs.State.{State, ◌>>=◌, after_sign, next}
 use Rattle.fj_text.specs.Token.{Token, Word, Number, Sign, BadByte, opening, closing, minus, plus, star, caret}
 use Rattle.fj_script.proofs.AcceptedPolynomials.{IsSmallIn, constant_small, negation_small, power_small, product_small, sum_small, variable_small, within_small}
-use Rattle.fj_script.proofs.AcceptedPrimes.{prime_positive}
 use Rattle.fj_script.proofs.AcceptedYields.{Yields, Anything, yields_anything, yields_if, yields_option}
 
 pub yields_bind : {A B : Type 0} (P : A → Type 0) (Q : B → Type 0) (r : Result A Fault) (f : A → Result B Fault) → Yields P r → ((x : A) → P x → Yields Q (f x)) → Yields Q (r >>= f)
@@ -28,7 +28,7 @@ module _ {F : Field} (L : IsField F) (n : ℕ) where
   formed_small (Some f) s h = h f refl
 
   reduced : (c : ℕ) → c % F.characteristic < F.size
-  reduced c = let small = mod_below c F.characteristic (prime_positive F.characteristic L.prime) in let fits = L.characteristic_fits in omega (arith, small, fits)
+  reduced c = let small = mod_below c F.characteristic (omega (arith, (prime_bounds F.characteristic L.prime).0)) in let fits = L.characteristic_fits in omega (arith, small, fits)
 
   -- Turns keep it.
   abbrev Keeps : (Polynomial → State → Option (text.Answer Polynomial)) → Type 0

@@ -1,11 +1,9 @@
-pub mod Primes
 pub mod Ends
 pub mod Ascii
 pub mod NewNames
 pub mod LineByLine
 pub mod Scripts
 pub mod More
-pub mod AcceptedPrimes
 pub mod AcceptedYields
 pub mod AcceptedArguments
 pub mod AcceptedItems

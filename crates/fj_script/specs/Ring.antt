@@ -1,8 +1,7 @@
 -- The ring: `ring p v1, v2, ..`, a prime and one to seven variables.
-use Rattle.std.specs.Prelude.{ℕ, ◌==◌, Bool, if◌then◌else◌, nat_le, List, length, Result, Ok, Err}
-use Rattle.std.specs.List.{list_any}
+use Rattle.std.specs.Prelude.{ℕ, if◌then◌else◌, nat_le, List, length, Result, Ok, Err}
 use Rattle.std.specs.Option.{is_some}
-use Rattle.fj_coeff.specs.Field.{primes}
+use Rattle.fj_coeff.specs.Field.{is_prime}
 use Rattle.fj_text.specs.State.{State}
 use Rattle.fj_text.specs.Word.{place_of}
 use Rattle.fj_script.specs.declared.fault.FaultKind.TheVariants as kinds
@@ -10,9 +9,6 @@ use Rattle.fj_script.specs.declared.fault.LineFault.{LineFault}
 use Rattle.fj_script.specs.LineFault.{Answer, ◌>>=◌, fault_at}
 use Rattle.fj_script.specs.Items.{at_end, listed, number, word}
 use Rattle.fj_script.specs.Session.{Session, new_session}
-
-unfoldable pub is_prime : ℕ → Bool
-is_prime n = list_any (λ p. n == p) primes
 
 unfoldable pub prime : State → Answer ℕ
 prime s = do

@@ -1,21 +1,20 @@
 //! Declarations.
 ghost use Rattle.std.specs.Prelude.{◌≡◌, ◌+◌, ◌<◌, ◌≤◌, ℕ, length, map, Contains, IfOk, OnOk, None};
 ghost use Rattle.fj_coeff.specs.Field.{primes};
-ghost use Rattle.fj_text.specs.Expression as text;
 ghost use Rattle.fj_text.specs.Word.{IsWord, place_of};
-ghost use Rattle.fj_script.specs.Declaration.{constant, coordinate, counted, expression, generator, ideal, name_equals, of_text, point, poly};
+ghost use Rattle.fj_script.specs.Declaration.{constant, coordinate, counted, generator, ideal, name_equals, point, poly};
 ghost use Rattle.fj_script.specs.Items.{enclosed, listed};
-ghost use Rattle.fj_script.specs.Names.{declared_names, meaning, new_name};
+ghost use Rattle.fj_script.specs.Names.{declared_names, new_name};
 ghost use Rattle.fj_script.specs.Seen.{Gives, Makes, Reads, terms_of};
 ghost use Rattle.fj_script.specs.Session.{terms_in};
 
+use super::expression::expression;
 use super::fault::{FaultKind, LineFault, LineRefusal, fault_at};
 use super::items::{at_end, narrow, sign, word};
 use super::session::Session;
 use super::value::{MAX_VALUES, Value};
-use fj_coeff::{Coeff, Fp};
 use fj_plain::{PlainList, PlainPoint, PlainPoly};
-use fj_text::{Reader, read_expression};
+use fj_text::Reader;
 use std::alloc::Global;
 
 /// The most generators of an ideal.
@@ -53,45 +52,6 @@ fn name_equals<'a>(session: &Session, reader: &mut Reader<'a>) -> Result<&'a [u8
     let name = new_name(session, reader)?;
     sign(b'=', reader)?;
     Ok(name)
-}
-
-/// An expression over a field.
-fn expression_over<K: Coeff>(
-    alloc: Global,
-    session: &Session,
-    reader: &mut Reader,
-) -> Result<PlainPoly, LineRefusal>
-    ensures reads { Reads (λ h. h.terms) result reader.new (of_text (text.expression K.field (meaning session.now) reader.old)) }
-    ensures taken { OnOk result (length reader.new.left < length reader.old.left) }
-{
-    let value = read_expression::<K, Session>(alloc, session, reader)?;
-    Ok(value.to_plain(alloc)?)
-}
-
-/// An expression over the field of the ring.
-#[tactic(auto, unfolding(crate::specs::Declaration::expression))]
-fn expression(
-    alloc: Global,
-    session: &Session,
-    reader: &mut Reader,
-) -> Result<PlainPoly, LineRefusal>
-    ensures reads { Reads (λ h. h.terms) result reader.new (expression session.now reader.old) }
-    ensures taken { OnOk result (length reader.new.left < length reader.old.left) }
-{
-    let p = session.prime();
-    if p == 2 {
-        expression_over::<Fp<2>>(alloc, session, reader)
-    } else if p == 3 {
-        expression_over::<Fp<3>>(alloc, session, reader)
-    } else if p == 5 {
-        expression_over::<Fp<5>>(alloc, session, reader)
-    } else if p == 7 {
-        expression_over::<Fp<7>>(alloc, session, reader)
-    } else if p == 11 {
-        expression_over::<Fp<11>>(alloc, session, reader)
-    } else {
-        expression_over::<Fp<13>>(alloc, session, reader)
-    }
 }
 
 /// An expression, where so many terms are declared before it.

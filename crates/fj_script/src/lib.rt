@@ -3,6 +3,7 @@
 
 mod ask;
 mod declaration;
+mod expression;
 mod fault;
 mod items;
 mod number;

@@ -1,30 +1,20 @@
 //! The ring of a session.
-ghost use Rattle.std.specs.Prelude.{◌≡◌, ◌<◌, ◌↔◌, length, map, Contains, IsTrue, IfOk, OnOk, None, is_some};
+ghost use Rattle.std.specs.Prelude.{◌≡◌, ◌<◌, length, map, Contains, IfOk, OnOk, None, is_some};
 ghost use Rattle.fj_coeff.specs.Field.{primes};
 ghost use Rattle.fj_text.specs.Word.{AreNames, IsWord, place_of};
 ghost use Rattle.fj_script.specs.Items.{listed};
-ghost use Rattle.fj_script.specs.Ring.{is_prime, prime, ring, variable};
+ghost use Rattle.fj_script.specs.Ring.{prime, ring, variable};
 ghost use Rattle.fj_script.specs.Seen.{Gives, Makes, Reads};
 
 use super::fault::{FaultKind, LineFault, LineRefusal, fault_at};
 use super::items::{at_end, number, word};
 use super::session::Session;
+use fj_coeff::is_prime;
 use fj_text::{Names, Reader};
 use std::alloc::Global;
 
-/// The primes that a ring may have.
-const PRIMES: [u64; 6] = [2, 3, 5, 7, 11, 13];
-
 /// The most variables.
 const MAX_VARIABLES: usize = 7;
-
-/// Whether a number is a prime that a ring may have.
-fn is_prime(n: u64) -> bool
-    ensures prime { IsTrue result ↔ Contains primes n }
-    ensures value { result ≡ is_prime n }
-{
-    PRIMES.contains(&n)
-}
 
 /// The prime that has to be next.
 #[tactic(auto, unfolding(crate::specs::Ring::prime))]

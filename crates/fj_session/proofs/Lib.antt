@@ -1,4 +1,3 @@
-pub mod Primes
 pub mod Known
 pub mod Residues
 pub mod Stops

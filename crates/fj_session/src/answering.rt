@@ -12,7 +12,7 @@ use super::part_rows::part_rows;
 use super::shown::shown_basis;
 use super::types::Answer;
 use fj_basis::Stop;
-use fj_coeff::{Coeff, Fp};
+use fj_coeff::{Coeff, OverField, over_prime_field};
 use fj_ideal::Ideal;
 use fj_script::{Asked, Env, Question};
 use std::alloc::{AllocError, Global};
@@ -44,25 +44,32 @@ pub fn answer(alloc: Global, env: &Env, asked: &Asked) -> Result<Answer, AllocEr
     prime_answer(alloc, env, asked)
 }
 
+/// Answering a question of a session.
+#[derive(Drop)]
+struct Answering<'s> {
+    alloc: Global,
+    env: &'s Env,
+    asked: &'s Asked,
+}
+
+impl OverField for Answering<'_> {
+    type Output = Result<Answer, AllocError>;
+
+    ghost can = { λ work F. AreOfOneSession work.env.now work.asked.now × (F ≡ prime_field work.env.now.p) };
+
+    ghost does = { λ work F answer after. IfOk answer (IsAnswerOver F work.env.now work.asked.now) };
+
+    fn over<K: Coeff>(&mut self) -> Result<Answer, AllocError> {
+        field_answer::<K>(self.alloc, self.env, self.asked)
+    }
+}
+
 /// The answer over GF(p).
 fn prime_answer(alloc: Global, env: &Env, asked: &Asked) -> Result<Answer, AllocError>
     requires { AreOfOneSession env.now asked.now }
     ensures { IfOk result (IsAnswer env.now asked.now) }
 {
-    let p = env.p;
-    if p == 2 {
-        field_answer::<Fp<2>>(alloc, env, asked)
-    } else if p == 3 {
-        field_answer::<Fp<3>>(alloc, env, asked)
-    } else if p == 5 {
-        field_answer::<Fp<5>>(alloc, env, asked)
-    } else if p == 7 {
-        field_answer::<Fp<7>>(alloc, env, asked)
-    } else if p == 11 {
-        field_answer::<Fp<11>>(alloc, env, asked)
-    } else {
-        field_answer::<Fp<13>>(alloc, env, asked)
-    }
+    over_prime_field(env.p, &mut Answering { alloc, env, asked })
 }
 
 /// The answer over a field, or that it stops.

@@ -9,5 +9,3 @@ pub mod laws;
 pub mod points;
 pub mod polynomials;
 pub mod splittings;
-#[cfg(test)]
-mod tests;

@@ -2,13 +2,13 @@ use Rattle.std.proofs.Common.{◌≤◌, ◌^◌, List, length, zip, refl, sym, 
 use Rattle.std.proofs.lemmas.Bool.{true≢false}
 use Rattle.fj_theory.specs.Plain.{PlainPolynomial, HasRanksBelow}
 use Rattle.fj_theory.specs.Certificate.{AllRanksBelow, HasParts}
-use Rattle.fj_plain.proofs.Powers.{prime_power_fits}
+use Rattle.fj_coeff.specs.PrimeFieldLaws.{prime_power_fits}
 use Rattle.fj_plain.proofs.Each.{EachBefore-more, All-from_EachBefore, All_at, slice_get_pair, length_pairs}
 use Rattle.fj_plain.proofs.identity.are_sums_of_parts.Goals as goal
 
 pub pow-q-requires : goal.pow-q-requires
 pow-q-requires c =
-    let fits = prime_power_fits c.args.p c.args.e (c.is_prime.ensures.0 c.if-not-is_prime.false) c.if-e-gt-EXPONENT_LIMIT.false in
+    let fits = prime_power_fits c.args.p c.args.e (c.is_prime.ensures.in_table.0 c.if-not-is_prime.false) c.if-e-gt-EXPONENT_LIMIT.false in
     omega arith
 
 pub is_sum_of_parts-requires-clause-target : goal.is_sum_of_parts-requires-clause-target
@@ -47,7 +47,7 @@ returns c =
     let rows : List (PlainPolynomial × (List PlainPolynomial × List PlainPolynomial)) = zip c.args.members.now (zip c.args.residues.now c.args.parts.now) in
     let short : length rows ≤ c.loop-i.i = let within = length_pairs c.args.members.now (zip c.args.residues.now c.args.parts.now) in omega (arith, c.len-i-end.ensures) in (
       λ _. record {
-        prime = c.is_prime.ensures.0 c.if-not-is_prime.false;
+        prime = c.is_prime.ensures.in_table.0 c.if-not-is_prime.false;
         exponent = c.if-e-gt-EXPONENT_LIMIT.false;
         members_below = c.have_ranks_below.ensures.0 c.if-not-have_ranks_below.false;
         residues_below = c.have_ranks_below-else-not-have_ranks_below.ensures.0 c.if-not-have_ranks_below-2.false;

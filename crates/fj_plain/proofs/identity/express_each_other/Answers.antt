@@ -28,7 +28,7 @@ returns c =
     (λ (b : Bool). IsTrue b ↔ IsExpressedBothWays c.args.p c.args.first.now c.args.second.now c.args.to_second.now c.args.to_first.now)
     (λ b e. (
       λ yes. record {
-        prime = c.is_prime.ensures.0 c.if-not-is_prime.false;
+        prime = c.is_prime.ensures.in_table.0 c.if-not-is_prime.false;
         first_below = c.have_ranks_below.ensures.0 c.if-not-have_ranks_below.false;
         second_below = c.have_ranks_below-else-not-have_ranks_below.ensures.0 c.if-not-have_ranks_below-2.false;
         to_second_below = c.have_ranks_below-else-not-have_ranks_below-2.ensures.0 c.if-not-have_ranks_below-3.false;

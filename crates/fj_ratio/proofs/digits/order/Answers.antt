@@ -2,6 +2,7 @@ use Rattle.std.proofs.Common.{◌≡◌, ◌*◌, ◌%◌, ◌^◌, ◌<◌, ◌
 use Rattle.std.proofs.lemmas.Bool.{cases_lt}
 use Rattle.std.proofs.lemmas.Nat.{mod_below, mul-le}
 use Rattle.std.proofs.Math.Nat.{pow-suc, pow-zero}
+use Rattle.fj_coeff.specs.Field.{greatest_prime}
 use Rattle.fj_coeff.specs.PrimeFieldLaws.{prime_bounds, pow-mod-more}
 use Rattle.fj_theory.proofs.Divisibility.{order_exists}
 use Rattle.fj_ratio.proofs.digits.order.Goals as goal
@@ -16,8 +17,8 @@ pub overflow_mul-power : goal.overflow_mul-power
 overflow_mul-power c =
     let small : c.args.p ^ c.loop-k.k % c.args.n < c.args.n = mod_below _ _ c.requires.positive in
     let power : c.loop-k.power < 2 ^ 16 = omega (arith, c.loop-k.invariant.power_is) in
-    let short : c.args.p < 14 = (prime_bounds _ c.requires.prime).1 in
-    let product : c.loop-k.power * c.args.p ≤ 2 ^ 16 * 14 = mul-le c.loop-k.power c.args.p (2 ^ 16) 14 (omega arith) (omega arith) in
+    let short : c.args.p ≤ greatest_prime = (prime_bounds _ c.requires.prime).1 in
+    let product : c.loop-k.power * c.args.p ≤ 2 ^ 16 * greatest_prime = mul-le c.loop-k.power c.args.p (2 ^ 16) greatest_prime (omega arith) short in
     omega arith
 
 pub loop-k-preserved : goal.loop-k-preserved
