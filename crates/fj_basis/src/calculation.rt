@@ -100,7 +100,7 @@ pub fn basis<K: Coeff, O: Order>(
     ensures reduced { IfOk result (λ b. IsReducedBasis K.field O.key list.now b.members) }
     ensures made { IfOk result (IsMadeOf K.field list.now) }
     ensures long { IfOk result (λ b. length b.up ≡ length list.now) }
-    ensures stop { IsStopWhere (Unfinished K.field O.key list.now pairs) (TooHigh K.field O.key list.now pairs) (order_in_row O.ROW) O.key list.now result }
+    ensures stop { IsStopWhere K.field (Unfinished K.field O.key list.now pairs) (TooHigh K.field O.key list.now pairs) (order_in_row O.ROW) O.key list.now result }
 {
     match finished(alloc, list, pairs) {
         Ok(basis) => Ok(basis),
