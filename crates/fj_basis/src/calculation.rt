@@ -90,7 +90,8 @@ fn finished<K: Coeff, O: Order>(
 /// O'Shea 2015, chapter 2, section 7).
 ///
 /// `Pairs` exactly where that many turns were made and pairs are pending, `High` exactly where a sugar above 2^40 arises
-/// within these turns or, where no pair is then pending, in finishing. Both keep the list. `Product` never comes.
+/// within these turns or, where no pair is then pending, in finishing. Both keep the list, the terms falling in O. `Product`
+/// never comes.
 pub fn basis<K: Coeff, O: Order>(
     alloc: Global,
     list: &[Poly<K, O>],
@@ -99,7 +100,7 @@ pub fn basis<K: Coeff, O: Order>(
     ensures reduced { IfOk result (λ b. IsReducedBasis K.field O.key list.now b.members) }
     ensures made { IfOk result (IsMadeOf K.field list.now) }
     ensures long { IfOk result (λ b. length b.up ≡ length list.now) }
-    ensures stop { IsStopWhere (Unfinished K.field O.key list.now pairs) (TooHigh K.field O.key list.now pairs) (order_in_row O.ROW) list.now result }
+    ensures stop { IsStopWhere K.field (Unfinished K.field O.key list.now pairs) (TooHigh K.field O.key list.now pairs) (order_in_row O.ROW) O.key list.now result }
 {
     match finished(alloc, list, pairs) {
         Ok(basis) => Ok(basis),

@@ -2,7 +2,7 @@ ghost use Rattle.std.specs.Prelude.{◌≡◌, IfOk, All, map};
 ghost use Rattle.fj_theory.specs.Plain.{HasRanksBelow, polynomial};
 ghost use Rattle.fj_theory.specs.Certificate.{AllRanksBelow, AllRowsBelow};
 ghost use Rattle.fj_plain.specs.OrderRow.{order_in_row};
-ghost use Rattle.fj_basis.specs.Outcome.{IsKeptOf};
+ghost use Rattle.fj_basis.specs.Outcome.{IsKeptOf, TermsFall, TotalsAreLow};
 
 use crate::members::Row;
 use fj_coeff::Coeff;
@@ -11,13 +11,15 @@ use fj_plain::{Kept, OrderName, PlainList, PlainTable};
 use fj_poly::Poly;
 use std::alloc::{AllocError, Global};
 
-/// The polynomials of a list as plain ones.
-pub(crate) fn plain_list<K: Coeff, O: Order>(
+/// The polynomials of a list as plain ones, the terms of each falling in O.
+pub fn plain_list<K: Coeff, O: Order>(
     alloc: Global,
     list: &[Poly<K, O>],
 ) -> Result<PlainList, AllocError>
     ensures value { IfOk result (λ plain. map polynomial plain ≡ list.now) }
     ensures ranks { IfOk result (AllRanksBelow K.field.size) }
+    ensures falling { IfOk result (TermsFall O.key) }
+    ensures totals { IfOk result TotalsAreLow }
 {
     let mut plain = Vec::with_capacity(alloc, list.len())?;
     for f in list {
@@ -41,12 +43,12 @@ pub(crate) fn plain_table<K: Coeff, O: Order>(
     Ok(PlainTable::of(plain))
 }
 
-/// The list of a run and its order, as a stop keeps them.
-pub(crate) fn kept<K: Coeff, O: Order>(
+/// The polynomials of a list as plain ones, with their order, as a stop keeps them.
+pub fn kept<K: Coeff, O: Order>(
     alloc: Global,
     list: &[Poly<K, O>],
 ) -> Result<Kept, AllocError>
-    ensures { IfOk result (IsKeptOf (order_in_row O.ROW) list.now) }
+    ensures { IfOk result (IsKeptOf K.field (order_in_row O.ROW) O.key list.now) }
 {
     Ok(Kept {
         order: OrderName::of(O::ROW),

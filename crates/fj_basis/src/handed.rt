@@ -18,8 +18,8 @@ pub(crate) fn sugar_of<K: Coeff, O: Order>(f: &Poly<K, O>) -> u64
     f.degree().unwrap_or(0)
 }
 
-/// A look at each polynomial of a list: it is one over the field.
-pub(crate) fn look_over<K: Coeff, O: Order>(list: &[Poly<K, O>])
+/// A look at each polynomial of a list, which tells that it is one over the field.
+pub fn look_over<K: Coeff, O: Order>(list: &[Poly<K, O>])
     ensures { ArePolynomials K.field list.now }
 {
     for f in list {

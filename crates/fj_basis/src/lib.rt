@@ -16,6 +16,8 @@ mod stop;
 pub mod types;
 
 pub use calculation::basis;
+pub use certificate::{kept, plain_list};
 pub use division::divide;
+pub use handed::look_over;
 pub use stop::Stop;
 pub use types::copy_list;

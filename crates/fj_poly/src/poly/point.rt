@@ -35,6 +35,14 @@ impl<K: Coeff> Point<K> {
         coordinates.extend_from_slice(c)?;
         Ok(Point { coordinates })
     }
+
+    /// The number of coordinates. Each coordinate is an element of the field.
+    pub fn len(&self) -> usize
+        ensures value { result ≡ length self.now }
+        ensures point { IsPoint K.field self.now }
+    {
+        self.coordinates.len()
+    }
 }
 
 impl<K: Coeff, O: Order> Poly<K, O> {
