@@ -23,6 +23,8 @@ pub use Rattle.fj_testideal.specs.TestIdeal.{IsLeftLimit}
 pub use Rattle.fj_testideal.specs.Jump.{IsJump}
 -- tau is constant on [s, t).
 pub use Rattle.fj_testideal.specs.Jump.{IsConstant}
+-- The step with a digit, and the numbers of periods after which the chains from (f) and from (1) first repeat.
+pub use Rattle.fj_testideal.specs.Chain.{IsStep, IsNumberOfRisingPeriods, IsNumberOfFallingPeriods}
 -- The candidates C_E, the fractions with at most E digits before their period and in it together; the gaps between them.
 pub use Rattle.fj_theory.specs.Candidates.{IsCandidate, AreCandidates, gaps}
 -- The list for E: the candidates that are jumps, the open gaps, and that it is complete.
