@@ -17,4 +17,6 @@ pub mod BeginningLines
 pub mod BeginningQuestions
 pub mod BeginningStatements
 pub mod BeginningSessions
+pub mod Wanted
+pub mod WantedReadings
 pub mod Ranked
