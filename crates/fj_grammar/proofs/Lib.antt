@@ -19,4 +19,5 @@ pub mod BeginningStatements
 pub mod BeginningSessions
 pub mod Wanted
 pub mod WantedReadings
+pub mod WantedGrammar
 pub mod Ranked
