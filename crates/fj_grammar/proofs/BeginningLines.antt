@@ -22,7 +22,7 @@ use Rattle.fj_script.specs.Numbers as numbers
 use Rattle.fj_script.specs.Question as question
 use Rattle.fj_script.specs.Question.{Target}
 use Rattle.fj_grammar.specs.Large.{HasLarge}
-use Rattle.fj_grammar.specs.Rank.{AreTooMany, HaveWrongArity}
+use Rattle.fj_grammar.specs.Many.{AreTooMany, HaveWrongArity}
 use Rattle.fj_grammar.specs.Wrong as wrong
 use Rattle.fj_grammar.specs.Wrong.{IsNameIn, IsWrong}
 use Rattle.fj_script.specs.Session.{Session, Terms, Value, Poly, ask, is_nonconstant, kind}

@@ -31,8 +31,8 @@ use Rattle.fj_script.specs.LineFault.{Answer, ◌>>=◌, fault_at, fault_of, not
 use Rattle.fj_script.specs.Names as names
 use Rattle.fj_grammar.specs.Large as large
 use Rattle.fj_grammar.specs.Large.{HasLarge, IsLargeIn}
-use Rattle.fj_grammar.specs.Rank as rank
-use Rattle.fj_grammar.specs.Rank.{AreTooMany}
+use Rattle.fj_grammar.specs.Many as rank
+use Rattle.fj_grammar.specs.Many.{AreTooMany}
 use Rattle.fj_grammar.specs.Wrong as wrong
 use Rattle.fj_grammar.proofs.NamesOf.{name_of, other_meaning, unknown_meaning}
 use Rattle.fj_script.specs.Session.{Session, Terms, Ideal, Point, declare, terms_in}

@@ -166,9 +166,9 @@ module _ (s0 : State) (V : Sayings) where
   Fits kinds.Constant ts us = Words ts × WrongWord kinds.Constant ts us
   Fits kinds.Many ts us = Caused kinds.Many ts us
   Fits kinds.Long ts us = Unit {0}
-  Fits kinds.Byte ts us = Unit {0}
+  Fits kinds.Byte ts us = (vs : List Token) × (us ≡ BadByte ∷ vs)
   Fits kinds.Syntax ts us = Unit {0}
-  Fits kinds.NoRing ts us = Unit {0}
+  Fits kinds.NoRing ts us = WrongWord kinds.NoRing ts us
   Fits kinds.Large ts us = BeginsNarrow us × Caused kinds.Large ts us
   Fits kinds.Arity ts us = Caused kinds.Arity ts us
 
@@ -182,11 +182,11 @@ module _ (s0 : State) (V : Sayings) where
     pub fits : Fits f.kind (toks before) (toks rest)
     pub blames : Blames f.kind rest
 
-  blame_fits : (tok : Token) (ts us : List Token) → Fits (kind_of (blame tok)) ts us
+  blame_fits : (tok : Token) (ts us : List Token) → Fits (kind_of (blame tok)) ts (tok ∷ us)
   blame_fits (Word w) ts us = tt
   blame_fits (Number n) ts us = tt
   blame_fits (Sign b) ts us = tt
-  blame_fits BadByte ts us = tt
+  blame_fits BadByte ts us = (us, refl)
 
   -- What was read behind these tokens, or such a fault.
   pub data Reading {E A : Type 0} (fault : E → LineFault) (Q : A → List Token → Type 0) (ts : List Token) : Result (A × State) E → Type 0 where
@@ -205,7 +205,7 @@ module _ (s0 : State) (V : Sayings) where
     all = H.reached.all;
     at = H.reached.start;
     goes_on = H.goes_on;
-    fits = blame_fits tok (toks H.reached.init) (H.reached.last.token ∷ toks t.left);
+    fits = subst (λ u. Fits (kind_of (blame tok)) (toks H.reached.init) (u ∷ toks t.left)) (last_same ts (toks H.reached.init) tok H.reached.last.token H.reached.tokens) (blame_fits tok (toks H.reached.init) (toks t.left));
     blames = λ e. blame_is tok (last_same ts (toks H.reached.init) tok H.reached.last.token H.reached.tokens ∙ e);
   }
 
@@ -244,7 +244,7 @@ module _ (s0 : State) (V : Sayings) where
     where
       by : (us : List Placed) → Fits (fault_of (unexpected (record { left = us; start = t.start; end = t.end }))).kind ts (toks us)
       by [] = tt
-      by (u ∷ us) = blame_fits u.token ts (toks (u ∷ us))
+      by (u ∷ us) = blame_fits u.token ts (toks us)
 
   -- a fault at the next token, or behind the last one
   pub wrong_next : {ts : List Token} {t : State} → Reached s0 ts t → V.Goes ts → Stuck (fault_of (unexpected t))

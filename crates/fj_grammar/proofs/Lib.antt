@@ -20,4 +20,6 @@ pub mod BeginningSessions
 pub mod Wanted
 pub mod WantedReadings
 pub mod WantedGrammar
+pub mod WantedNames
+pub mod Misplaced
 pub mod Ranked

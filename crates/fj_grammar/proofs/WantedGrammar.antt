@@ -25,8 +25,8 @@ use Rattle.fj_grammar.specs.Grammar as grammar
 use Rattle.fj_grammar.specs.Grammar.{AreListed, HasTerms, IsCoordinate, IsQuestion, IsRatio, IsRing, IsStatement, IsVariable}
 use Rattle.fj_grammar.specs.Large as large
 use Rattle.fj_grammar.specs.Large.{HasLarge, IsLargeAtom, IsLargeExpression, IsLargeFactor, IsLargeIn, IsLargeTerm}
-use Rattle.fj_grammar.specs.Rank as rank
-use Rattle.fj_grammar.specs.Rank.{AreTooMany, Declares, HaveWrongArity}
+use Rattle.fj_grammar.specs.Many as rank
+use Rattle.fj_grammar.specs.Many.{AreTooMany, HaveWrongArity}
 use Rattle.fj_grammar.proofs.Wanted.{Want, Beginning, Coordinates, Denominator, Factors, Generators, Mark, Name, Negative, Numeral, Operand, OrderWord, PerhapsName, Power, QuestionWord, Summands, Variables, a_coordinate, a_term, an_expression, run, run_behind, step, wants_of_ask, wants_of_keyword}
 
 -- Tokens may come, and then this is wanted, or a power and this.
@@ -40,7 +40,7 @@ pub record MayCome (ts : List Token) (vs : List Want) : Type 0 where
   pub wants : List Want
   pub reached : run ts vs ≡ Some wants
 
-come : {ts : List Token} {vs ws : List Want} → run ts vs ≡ Some ws → MayCome ts vs
+pub come : {ts : List Token} {vs ws : List Want} → run ts vs ≡ Some ws → MayCome ts vs
 come e = record { wants = _; reached = e }
 
 -- More tokens that may come, whether a power is wanted or not.
@@ -60,7 +60,7 @@ reach_front e H = record { wants = H.wants; reached = e ∙ H.reached; is = H.is
 comes : {ts : List Token} {vs ws : List Want} → Reach ts vs ws → MayCome ts vs
 comes H = record { wants = H.wants; reached = H.reached }
 
-comes_front : {ts us : List Token} {vs xs : List Want} → run ts vs ≡ run us xs → MayCome us xs → MayCome ts vs
+pub comes_front : {ts us : List Token} {vs xs : List Want} → run ts vs ≡ run us xs → MayCome us xs → MayCome ts vs
 comes_front e H = record { wants = H.wants; reached = e ∙ H.reached }
 
 -- no `-` is first
@@ -152,7 +152,7 @@ module _ (F : Field) (meaning : List ℕ → Meaning) where
 
 -- ---- lists
 
-variables_run : {ts : List Token} {vs : List (List ℕ)} → AreListed IsVariable ts vs → (ws : List Want) → run ts (Name ∷ Variables ∷ ws) ≡ Some (Variables ∷ ws)
+pub variables_run : {ts : List Token} {vs : List (List ℕ)} → AreListed IsVariable ts vs → (ws : List Want) → run ts (Name ∷ Variables ∷ ws) ≡ Some (Variables ∷ ws)
 variables_run (grammar.last grammar.variable) ws = refl
 variables_run (grammar.more {us = us} grammar.variable l) ws = variables_run l ws
 
