@@ -21,7 +21,7 @@ use Rattle.fj_grammar.specs.Grammar.{AreListed, HasTerms, IsRing, IsSession, IsS
 use Rattle.fj_grammar.specs.Large.{HasLarge}
 use Rattle.fj_grammar.specs.Many as rank
 use Rattle.fj_grammar.specs.Many.{AreTooMany, HaveWrongArity}
-use Rattle.fj_grammar.specs.Owed.{IsLineEnd, IsMisplaced}
+use Rattle.fj_grammar.specs.Owed.{IsLineEnd, IsMisplaced, IsUnfinished}
 use Rattle.fj_grammar.specs.Rank.{HasCause, IsOfNumber, IsOfWord, KindIsHighest, StandsAt, lines_to, tokens_to}
 use Rattle.fj_grammar.specs.Wrong as wrongs
 use Rattle.fj_grammar.specs.Wrong.{BeginsLater, IsWrong}
@@ -33,7 +33,7 @@ use Rattle.fj_grammar.proofs.ExpressionEnds.{EndsNarrow, IsNarrow, expression_na
 use Rattle.fj_grammar.proofs.FirstFault.{FirstWrong, first_wrong, line_is, lines_wrong}
 use Rattle.fj_grammar.proofs.Rising.{AreRising, line_rises, starts_below, token_is}
 use Rattle.fj_grammar.proofs.TwoReadings.{line_from}
-use Rattle.fj_grammar.proofs.Misplaced.{misplaced}
+use Rattle.fj_grammar.proofs.Misplaced.{misplaced, unfinished}
 use Rattle.fj_grammar.proofs.Wanted.{Beginning}
 use Rattle.fj_grammar.proofs.WantedReadings.{Blamed, Owed, at_token, ended, line_owed}
 
@@ -152,7 +152,7 @@ kind_highest bytes place H e = record {
   byte_over_others = λ stands. bad_there stands K.rest K.all K.at K.blames;
   byte_at_bad_byte = λ is. let x = fit kinds.Byte is in first_stands BadByte x.0 x.1 K.rest K.all K.at refl;
   no_ring_at_first = λ is. let x = fit kinds.NoRing is in without_ring x.0 x.1 x.2 w.session (toks K.before) x.3 made before_it;
-  syntax_is_owed = λ is. owed (subst (λ k. Blamed s0 (Beginning (is_some w.session) ∷ []) k w.found.column) (kind_same ∙ is) (line_owed w.session all w.found (sym (line_is w.session l) ∙ w.wrong)));
+  syntax_is_owed = λ is. (w.session, made, owed (subst (λ k. Blamed s0 (Beginning (is_some w.session) ∷ []) k w.found.column) (kind_same ∙ is) (line_owed w.session all w.found (sym (line_is w.session l) ∙ w.wrong))));
   syntax_over_number = λ is. let x = number_follows s0 w.session (toks K.before) (toks K.rest) place.kind fits is in let at = x.1 in (at.0, x.0.0, (first_stands (Number at.0) at.1 at.2 K.rest K.all K.at refl, w.session, made, subst (λ ts. IsWrong w.session ts place.kind (Number at.0)) (sym before_it) at.3, subst (λ ts. MayFollow w.session ts (Number x.0.0)) (sym before_it) x.0.1));
   syntax_over_word = λ is. let x = word_follows s0 w.session (toks K.before) (toks K.rest) place.kind fits is in let at = x.1 in (at.0, x.0.0, (first_stands (Word at.0) at.1 at.2 K.rest K.all K.at refl, w.session, made, subst (λ ts. IsWrong w.session ts place.kind (Word at.0)) (sym before_it) at.3, subst (λ ts. MayFollow w.session ts (Word x.0.0)) (sym before_it) x.0.1));
   syntax_over_large = λ is. let x = fit kinds.Large is in cause_there HasLarge kinds.Large (λ S ts h. h) x.1;
@@ -253,24 +253,28 @@ kind_highest bytes place H e = record {
 
     without_ring : (v : List ℕ) (us : List Token) → toks K.rest ≡ Word v ∷ us → (before : Option Session) (ts : List Token) → IsWrong before ts kinds.NoRing (Word v) → MakeSession (lines_to place bytes) before → tokens_to place bytes ≡ ts
         → (v : List ℕ) × StandsAt place bytes (Word v) × BeginsLater v × (tokens_to place bytes ≡ []) × MakeSession (lines_to place bytes) None
-    without_ring v us e None [] (wrongs.no_ring other) made same = (v, first_stands (Word v) us e K.rest K.all K.at refl, other, same, made)
-    without_ring v us e None (t ∷ ts) is made same = elim is [ ]
-    without_ring v us e (Some S) ts is made same = elim is [ ]
+    without_ring v us e None [] (wrongs.no_ring other) nothing same = (v, first_stands (Word v) us e K.rest K.all K.at refl, other, same, nothing)
+    without_ring v us e None (t ∷ ts) is nothing same = elim is [ ]
+    without_ring v us e (Some S) ts is nothing same = elim is [ ]
 
     line_tokens : tokens_from zero zero (line_at place.line bytes) ≡ all
     line_tokens = ap (tokens_from zero zero) line_same
 
-    owed : Owed s0 (Beginning (is_some w.session) ∷ []) w.found.column
-        → IsLineEnd place bytes ⊎ ((t : Token) × StandsAt place bytes t × (before : Option Session) × MakeSession (lines_to place bytes) before × IsMisplaced before (tokens_to place bytes) t)
-    owed (ended e) = inl (by (last_token all) e)
-      where
-        empty : all ≡ [] → ⊥
-        empty none = absurd (let made_here = sym (ap (λ ts. line_from w.session (record { left = ts; start = 0; end = 0 })) none) ∙ sym (line_is w.session l) ∙ w.wrong in nothing_wrong w.session w.found made_here)
+    Misfit : Type 0
+    Misfit = (IsLineEnd place bytes × IsUnfinished w.session (tokens_to place bytes)) ⊎ ((t : Token) × StandsAt place bytes t × IsMisplaced w.session (tokens_to place bytes) t)
 
-        by : (all ≡ []) ⊎ ((ts : List Placed) × (u : Placed) × (all ≡ ts ++ u ∷ [])) → w.found.column ≡ end_of all 0 → IsLineEnd place bytes
-        by (inl none) at = absurd (empty none)
-        by (inr (ts, u, is)) at = let column = at ∙ ap (λ us. end_of us 0) is ∙ Said.end_last ts u 0 in (ts, u, line_tokens ∙ is, omega (arith, column, column_is))
+    tokens_read : (read rest : List Placed) → all ≡ read ++ rest → Said.StandsAt w.found.column rest (end_of read 0) → tokens_to place bytes ≡ toks read
+    tokens_read read rest whole at = ap toks (ap (λ n. tokens_before n (line_at place.line bytes)) column_is ∙ ap (tokens_before (w.found.column + 1)) line_same ∙ before_is l w.found.column read rest whole at)
+
+    at_end : (ts : List Placed) (u : Placed) → all ≡ ts ++ u ∷ [] → w.found.column ≡ end_of all 0 → IsLineEnd place bytes
+    at_end ts u is at = let column = at ∙ ap (λ us. end_of us 0) is ∙ Said.end_last ts u 0 in (ts, u, line_tokens ∙ is, omega (arith, column, column_is))
+
+    owed : Owed s0 (Beginning (is_some w.session) ∷ []) w.found.column → Misfit
+    owed (ended wants at reached more_wanted) = by (last_token all)
+      where
+        by : (all ≡ []) ⊎ ((ts : List Placed) × (u : Placed) × (all ≡ ts ++ u ∷ [])) → Misfit
+        by (inl nothing) = absurd (nothing_wrong w.session w.found (sym (ap (λ ts. line_from w.session (record { left = ts; start = 0; end = 0 })) nothing) ∙ sym (line_is w.session l) ∙ w.wrong))
+        by (inr (ts, u, is)) = inl (at_end ts u is at, subst (IsUnfinished w.session) (sym (tokens_read all [] (sym (append-nil all)) at)) (unfinished w.session (toks all) wants reached more_wanted))
     owed (at_token read p rest wants whole at reached refused) =
-        let before_token : tokens_to place bytes ≡ toks read = ap toks (ap (λ n. tokens_before n (line_at place.line bytes)) column_is ∙ ap (tokens_before (w.found.column + 1)) line_same ∙ before_is l w.found.column read (p ∷ rest) whole at) in
         let inside : Contains all p = subst (λ ts. Contains ts p) (sym whole) (Contains-append_right read (p ∷ rest) p (0, omega arith, refl)) in
-        inr (p.token, (p, subst (λ ts. Contains ts p) (sym line_tokens) inside, omega (arith, at, column_is), refl), w.session, made, subst (λ ts. IsMisplaced w.session ts p.token) (sym before_token) (misplaced w.session (toks read) p.token wants reached refused))
+        inr (p.token, (p, subst (λ ts. Contains ts p) (sym line_tokens) inside, omega (arith, at, column_is), refl), subst (λ ts. IsMisplaced w.session ts p.token) (sym (tokens_read read (p ∷ rest) whole at)) (misplaced w.session (toks read) p.token wants reached refused))

@@ -147,6 +147,35 @@ run_behind (t ∷ ts) us ws vs e = by (step t ws) refl e (λ xs h. run_behind ts
     by None is h rec = absurd cc
     by (Some xs) is h rec = ap (option_and_then (run (ts ++ us))) is ∙ rec xs h
 
+-- All that is still wanted may be missing: the line may end.
+abbrev pub MayBeMissing : Want → Type 0
+MayBeMissing (Beginning ring) = ⊥
+MayBeMissing Name = ⊥
+MayBeMissing Numeral = ⊥
+MayBeMissing (Mark b) = ⊥
+MayBeMissing OrderWord = ⊥
+MayBeMissing QuestionWord = ⊥
+MayBeMissing Operand = ⊥
+MayBeMissing PerhapsName = Unit {0}
+MayBeMissing Power = Unit {0}
+MayBeMissing Factors = Unit {0}
+MayBeMissing Summands = Unit {0}
+MayBeMissing Negative = Unit {0}
+MayBeMissing Denominator = Unit {0}
+MayBeMissing Variables = Unit {0}
+MayBeMissing Generators = Unit {0}
+MayBeMissing Coordinates = Unit {0}
+
+pub data MayEnd : List Want → Type 0 where
+  ended : MayEnd []
+  missing : {w : Want} {ws : List Want} → MayBeMissing w → MayEnd ws → MayEnd (w ∷ ws)
+
+pub still_wanted : {w : Want} {ws : List Want} → (MayBeMissing w → ⊥) → MayEnd (w ∷ ws) → ⊥
+still_wanted needed (missing h k) = absurd (needed h)
+
+pub others_end : {w : Want} {ws : List Want} → MayEnd (w ∷ ws) → MayEnd ws
+others_end (missing h k) = k
+
 -- Whatever goes on must have begun.
 pub run_front : (ts us : List Token) (ws vs : List Want) → run (ts ++ us) ws ≡ Some vs → (xs : List Want) × (run ts ws ≡ Some xs) × (run us xs ≡ Some vs)
 run_front [] us ws vs e = (ws, refl, e)

@@ -27,7 +27,7 @@ use Rattle.fj_grammar.specs.Large as large
 use Rattle.fj_grammar.specs.Large.{HasLarge, IsLargeAtom, IsLargeExpression, IsLargeFactor, IsLargeIn, IsLargeTerm}
 use Rattle.fj_grammar.specs.Many as rank
 use Rattle.fj_grammar.specs.Many.{AreTooMany, HaveWrongArity}
-use Rattle.fj_grammar.proofs.Wanted.{Want, Beginning, Coordinates, Denominator, Factors, Generators, Mark, Name, Negative, Numeral, Operand, OrderWord, PerhapsName, Power, QuestionWord, Summands, Variables, a_coordinate, a_term, an_expression, run, run_behind, step, wants_of_ask, wants_of_keyword}
+use Rattle.fj_grammar.proofs.Wanted.{MayEnd, Want, Beginning, Coordinates, Denominator, Factors, Generators, Mark, Name, Negative, Numeral, Operand, OrderWord, PerhapsName, Power, QuestionWord, Summands, Variables, a_coordinate, a_term, an_expression, ended, missing, run, run_behind, step, wants_of_ask, wants_of_keyword}
 
 -- Tokens may come, and then this is wanted, or a power and this.
 record Reach (ts : List Token) (vs ws : List Want) : Type 0 where
@@ -56,6 +56,28 @@ exact e = record { wants = _; reached = e; is = inr refl }
 
 reach_front : {ts us : List Token} {vs xs ws : List Want} → run ts vs ≡ run us xs → Reach us xs ws → Reach ts vs ws
 reach_front e H = record { wants = H.wants; reached = e ∙ H.reached; is = H.is }
+
+-- And the line may end then.
+pub record IsFull (ts : List Token) (vs : List Want) : Type 0 where
+  pub wants : List Want
+  pub reached : run ts vs ≡ Some wants
+  pub may_end : MayEnd wants
+
+full : {ts : List Token} {vs ws : List Want} → run ts vs ≡ Some ws → MayEnd ws → IsFull ts vs
+full e h = record { wants = _; reached = e; may_end = h }
+
+full_front : {ts us : List Token} {vs xs : List Want} → run ts vs ≡ run us xs → IsFull us xs → IsFull ts vs
+full_front e H = record { wants = H.wants; reached = e ∙ H.reached; may_end = H.may_end }
+
+pub full_comes : {ts : List Token} {vs : List Want} → IsFull ts vs → MayCome ts vs
+full_comes H = record { wants = H.wants; reached = H.reached }
+
+reach_full : {ts : List Token} {vs ws : List Want} → Reach ts vs ws → MayEnd ws → IsFull ts vs
+reach_full {ws = ws} H h = record { wants = H.wants; reached = H.reached; may_end = by H.wants H.is }
+  where
+    by : (xs : List Want) → (xs ≡ Power ∷ ws) ⊎ (xs ≡ ws) → MayEnd xs
+    by xs (inl e) = subst MayEnd (sym e) (missing tt h)
+    by xs (inr e) = subst MayEnd (sym e) h
 
 comes : {ts : List Token} {vs ws : List Want} → Reach ts vs ws → MayCome ts vs
 comes H = record { wants = H.wants; reached = H.reached }
@@ -173,49 +195,49 @@ coordinates_run (grammar.more {ts = ts} {us = us} h l) ws = run_behind ts (Sign 
 
 -- ---- statements
 
-ratio_comes : {ts : List Token} {t : _} → IsRatio ts t → MayCome ts (Numeral ∷ Denominator ∷ [])
-ratio_comes (grammar.whole h) = come refl
-ratio_comes (grammar.quotient h) = come refl
+ratio_full : {ts : List Token} {t : _} → IsRatio ts t → IsFull ts (Numeral ∷ Denominator ∷ [])
+ratio_full (grammar.whole h) = full refl (missing tt ended)
+ratio_full (grammar.quotient h) = full refl ended
 
-question_comes : {S : Session} {ts : List Token} {q : Question} → IsQuestion S ts q → MayCome ts (QuestionWord ∷ [])
+question_full : {S : Session} {ts : List Token} {q : Question} → IsQuestion S ts q → IsFull ts (QuestionWord ∷ [])
 unfolding question.ask_of
-question_comes (grammar.parts e f) = come refl
-question_comes (grammar.basis j) = come refl
-question_comes (grammar.member f j) = come refl
-question_comes (grammar.same j k) = come refl
-question_comes (grammar.sum j k) = come refl
-question_comes (grammar.product j k) = come refl
-question_comes (grammar.meet j k) = come refl
-question_comes (grammar.colon j k) = come refl
-question_comes (grammar.power e j) = come refl
-question_comes (grammar.root e j) = come refl
-question_comes (grammar.test f t) = comes_front refl (ratio_comes t)
-question_comes (grammar.left f t above) = comes_front refl (ratio_comes t)
-question_comes (grammar.isjump f t above) = comes_front refl (ratio_comes t)
-question_comes (grammar.regular f t) = comes_front refl (ratio_comes t)
-question_comes (grammar.jumps f e) = come refl
-question_comes (grammar.nu e f j) = come refl
-question_comes (grammar.threshold f j e) = come refl
-question_comes (grammar.threshold_at f at e) = come refl
-question_comes (grammar.fpure j) = come refl
-question_comes (grammar.fpure_at j at) = come refl
-question_comes (grammar.split j) = come refl
-question_comes (grammar.compatible e u j) = come refl
+question_full (grammar.parts e f) = full refl ended
+question_full (grammar.basis j) = full refl ended
+question_full (grammar.member f j) = full refl ended
+question_full (grammar.same j k) = full refl ended
+question_full (grammar.sum j k) = full refl ended
+question_full (grammar.product j k) = full refl ended
+question_full (grammar.meet j k) = full refl ended
+question_full (grammar.colon j k) = full refl ended
+question_full (grammar.power e j) = full refl ended
+question_full (grammar.root e j) = full refl ended
+question_full (grammar.test f t) = full_front refl (ratio_full t)
+question_full (grammar.left f t above) = full_front refl (ratio_full t)
+question_full (grammar.isjump f t above) = full_front refl (ratio_full t)
+question_full (grammar.regular f t) = full_front refl (ratio_full t)
+question_full (grammar.jumps f e) = full refl ended
+question_full (grammar.nu e f j) = full refl ended
+question_full (grammar.threshold f j e) = full refl ended
+question_full (grammar.threshold_at f at e) = full refl ended
+question_full (grammar.fpure j) = full refl (missing tt ended)
+question_full (grammar.fpure_at j at) = full refl ended
+question_full (grammar.split j) = full refl ended
+question_full (grammar.compatible e u j) = full refl ended
 
-pub ring_comes : {ts : List Token} {S : Session} → IsRing ts S → MayCome ts (Beginning false ∷ [])
+pub ring_full : {ts : List Token} {S : Session} → IsRing ts S → IsFull ts (Beginning false ∷ [])
 unfolding statements.keyword_of
-ring_comes (grammar.ring known l few apart) = come (variables_run l [])
+ring_full (grammar.ring known l few apart) = full (variables_run l []) (missing tt ended)
 
-pub statement_comes : {S T : Session} {ts : List Token} → IsStatement S ts T → MayCome ts (Beginning true ∷ [])
+pub statement_full : {S T : Session} {ts : List Token} → IsStatement S ts T → IsFull ts (Beginning true ∷ [])
 unfolding statements.keyword_of
-statement_comes grammar.lex = come refl
-statement_comes grammar.grlex = come refl
-statement_comes grammar.grevlex = come refl
-statement_comes (grammar.budget low high) = come refl
-statement_comes (grammar.poly new h few) = comes_front refl (comes (terms_run h []))
-statement_comes (grammar.ideal new l few terms) = come (go_on (Sign closing ∷ []) (Some []) (generators_run l (Mark closing ∷ [])) refl refl)
-statement_comes (grammar.point {ts = ts} new l each) = come (run_behind ts (Sign closing ∷ []) (a_coordinate (Coordinates ∷ Mark closing ∷ [])) (Coordinates ∷ Mark closing ∷ []) (coordinates_run l (Mark closing ∷ [])))
-statement_comes (grammar.asked few q) = comes_front refl (question_comes q)
+statement_full grammar.lex = full refl ended
+statement_full grammar.grlex = full refl ended
+statement_full grammar.grevlex = full refl ended
+statement_full (grammar.budget low high) = full refl ended
+statement_full (grammar.poly new h few) = full_front refl (reach_full (terms_run h []) (missing tt (missing tt ended)))
+statement_full (grammar.ideal new l few terms) = full (go_on (Sign closing ∷ []) (Some []) (generators_run l (Mark closing ∷ [])) refl refl) ended
+statement_full (grammar.point {ts = ts} new l each) = full (run_behind ts (Sign closing ∷ []) (a_coordinate (Coordinates ∷ Mark closing ∷ [])) (Coordinates ∷ Mark closing ∷ []) (coordinates_run l (Mark closing ∷ []))) ended
+statement_full (grammar.asked few q) = full_front refl (question_full q)
 
 -- ---- beginnings that have another fault
 

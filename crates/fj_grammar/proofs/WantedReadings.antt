@@ -38,7 +38,7 @@ use Rattle.fj_script.specs.Session.{Session, Terms, Poly, Ideal, Point, ask, dec
 use Rattle.fj_script.specs.Statement as statements
 use Rattle.fj_grammar.proofs.Beginnings.{end_last, toks}
 use Rattle.fj_grammar.proofs.TwoReadings.{line_from, mapped}
-use Rattle.fj_grammar.proofs.Wanted.{Want, Beginning, Coordinates, Denominator, Factors, Generators, Mark, Name, Negative, Numeral, Operand, OrderWord, PerhapsName, Power, QuestionWord, Summands, Variables, a_coordinate, a_term, an_expression, IsOptional, coordinates_optional, denominator_optional, factors_optional, generators_optional, minus_step, negative_optional, neither_step, plus_step, power_optional, run, run_behind, step, variables_optional, wants_of_ask, wants_of_keyword}
+use Rattle.fj_grammar.proofs.Wanted.{MayEnd, Want, Beginning, Coordinates, Denominator, Factors, Generators, Mark, Name, Negative, Numeral, Operand, OrderWord, PerhapsName, Power, QuestionWord, Summands, Variables, a_coordinate, a_term, an_expression, IsOptional, coordinates_optional, denominator_optional, factors_optional, generators_optional, minus_step, negative_optional, neither_step, others_end, plus_step, power_optional, run, run_behind, step, still_wanted, variables_optional, wants_of_ask, wants_of_keyword}
 
 abbrev NotNext : ℕ → List Placed → Type 0
 NotNext b [] = Unit {0}
@@ -79,11 +79,12 @@ module _ (s0 : State) (first : List Want) where
     pub wants : List Want
     pub reached : run (toks read) first ≡ Some wants
     pub agree : Agree wants ws s.left
+    pub may_end : MayEnd wants → MayEnd ws
     pub end : s.end ≡ end_of read s0.end
 
   -- A fault stands where the line ends, or at a token that may not stand there.
   pub data Owed (c : ℕ) : Type 0 where
-    ended : c ≡ end_of s0.left s0.end → Owed c
+    ended : (wants : List Want) → c ≡ end_of s0.left s0.end → run (toks s0.left) first ≡ Some wants → (MayEnd wants → ⊥) → Owed c
     at_token : (read : List Placed) (t : Placed) (rest : List Placed) (wants : List Want) → s0.left ≡ read ++ t ∷ rest → c ≡ t.start → run (toks read) first ≡ Some wants → step t.token wants ≡ None → Owed c
 
   -- Of other kinds nothing is said.
@@ -144,6 +145,7 @@ module _ (s0 : State) (first : List Want) where
       wants = vs;
       reached = ap (λ us. run us first) (map-append (λ (t : Placed). t.token) H.read (t ∷ [])) ∙ run_behind (toks H.read) (t.token ∷ []) first H.wants H.reached ∙ ap (option_and_then (run [])) (agree_at H t ts e ∙ is);
       agree = same vs ts;
+      may_end = λ h. h;
       end = sym (end_last H.read t s0.end);
     };
     bad = λ is. at_token H.read t ts H.wants (H.all ∙ ap (λ us. H.read ++ us) e) refl H.reached (agree_at H t ts e ∙ is);
@@ -154,13 +156,15 @@ module _ (s0 : State) (first : List Want) where
       same vs [] = tt
       same vs (u ∷ us) = refl
 
-  at_the_end : {ws : List Want} {s : State} → Wanted ws s → s.left ≡ [] → Owed s.end
-  at_the_end H e = ended (H.end ∙ ap (λ us. end_of us s0.end) (sym (append-nil H.read) ∙ ap (λ us. H.read ++ us) (sym e) ∙ sym H.all))
+  at_the_end : {ws : List Want} {s : State} → Wanted ws s → (MayEnd ws → ⊥) → s.left ≡ [] → Owed s.end
+  at_the_end H needed e =
+      let whole : H.read ≡ s0.left = sym (append-nil H.read) ∙ ap (λ us. H.read ++ us) (sym e) ∙ sym H.all in
+      ended H.wants (H.end ∙ ap (λ us. end_of us s0.end) whole) (ap (λ us. run (toks us) first) (sym whole) ∙ H.reached) (λ h. needed (H.may_end h))
 
   -- where no token that is left may stand
-  refused : {ws : List Want} (s : State) → Wanted ws s → ((t : Placed) (ts : List Placed) → s.left ≡ t ∷ ts → (step t.token ws ≡ None) ⊎ (t.token ≡ BadByte)) → Blamed (fault_of (unexpected s)).kind (fault_of (unexpected s)).column
+  refused : {ws : List Want} (s : State) → Wanted ws s → (s.left ≡ [] → MayEnd ws → ⊥) → ((t : Placed) (ts : List Placed) → s.left ≡ t ∷ ts → (step t.token ws ≡ None) ⊎ (t.token ≡ BadByte)) → Blamed (fault_of (unexpected s)).kind (fault_of (unexpected s)).column
   unfolding unexpected
-  refused {ws} s H none = by s.left refl
+  refused {ws} s H needed none = by s.left refl
     where
       blamed : (tok : Token) (c : ℕ) → (step tok ws ≡ None) ⊎ (tok ≡ BadByte) → (step tok ws ≡ None → Owed c) → Blamed (kind_of (blame tok)) c
       blamed (Word w) c (inl is) owed = owed is
@@ -172,7 +176,7 @@ module _ (s0 : State) (first : List Want) where
       blamed BadByte c is owed = tt
 
       by : (ts : List Placed) → s.left ≡ ts → Blamed (fault_of (unexpected (record { left = ts; start = s.start; end = s.end }))).kind (fault_of (unexpected (record { left = ts; start = s.start; end = s.end }))).column
-      by [] e = at_the_end H e
+      by [] e = at_the_end H (needed e) e
       by (t ∷ ts) e = blamed t.token t.start (none t ts e) (taken H t ts e).bad
 
   -- ---- one rule after another
@@ -218,19 +222,20 @@ module _ (s0 : State) (first : List Want) where
 
   -- What one token makes.
   record Handles {E A : Type 0} (fault : E → LineFault) (ws vs : List Want) (read : Token → State → Result (A × State) E) : Type 0 where
+    needed : MayEnd ws → ⊥
     each : (tok : Token) (n : ℕ) (u : State) → Next ws tok n u → Post fault (Goes n vs) (read tok u)
 
-  nothing_left : {ws : List Want} (s : State) → Wanted ws s → s.left ≡ [] → Blamed (fault_of (unexpected s)).kind (fault_of (unexpected s)).column
-  nothing_left s at e = refused s at (λ t ts is. absurd (let both = sym e ∙ is in cc))
+  nothing_left : {ws : List Want} (s : State) → Wanted ws s → (MayEnd ws → ⊥) → s.left ≡ [] → Blamed (fault_of (unexpected s)).kind (fault_of (unexpected s)).column
+  nothing_left s at needed e = refused s at (λ _. needed) (λ t ts is. absurd (let both = sym e ∙ is in cc))
 
   text_taking : {A : Type 0} {ws vs : List Want} (read : Token → State → text.Answer A) → Handles fault_of ws vs read → Takes fault_of ws vs (text.taking read)
-  text_taking read K = record { from = λ s at. next_post (λ t. read t.0 t.1) (Err (unexpected s)) s at (λ tok u k. K.each tok (length s.left) u k) (λ e. failed (nothing_left s at e)) }
+  text_taking read K = record { from = λ s at. next_post (λ t. read t.0 t.1) (Err (unexpected s)) s at (λ tok u k. K.each tok (length s.left) u k) (λ e. failed (nothing_left s at K.needed e)) }
 
   line_taking : {A : Type 0} {ws vs : List Want} (read : Token → State → Answer A) → Handles (λ e. e) ws vs read → Takes (λ e. e) ws vs (taking read)
-  line_taking read K = record { from = λ s at. next_post (λ t. read t.0 t.1) (Err (not_here s)) s at (λ tok u k. K.each tok (length s.left) u k) (λ e. failed (nothing_left s at e)) }
+  line_taking read K = record { from = λ s at. next_post (λ t. read t.0 t.1) (Err (not_here s)) s at (λ tok u k. K.each tok (length s.left) u k) (λ e. failed (nothing_left s at K.needed e)) }
 
   skipped : {b : ℕ} {w : Want} {inside : List Want → List Want} {ws : List Want} {s : State} → IsOptional b w inside → Wanted (w ∷ ws) s → NotNext b s.left → Wanted ws s
-  skipped {b} {w} {inside} {ws} {s} optional H missing = record { read = H.read; all = H.all; wants = H.wants; reached = H.reached; agree = by s.left H.agree missing; end = H.end }
+  skipped {b} {w} {inside} {ws} {s} optional H missing = record { read = H.read; all = H.all; wants = H.wants; reached = H.reached; agree = by s.left H.agree missing; may_end = λ h. others_end (H.may_end h); end = H.end }
     where
       by : (ts : List Placed) → Agree H.wants (w ∷ ws) ts → NotNext b ts → Agree H.wants ws ts
       by [] h k = tt
@@ -251,7 +256,7 @@ module _ (s0 : State) (first : List Want) where
 
   -- a sign that has to stand there
   mark_missing : {ws : List Want} (b : ℕ) (s : State) → Wanted (Mark b ∷ ws) s → NotNext b s.left → Blamed (fault_of (unexpected s)).kind (fault_of (unexpected s)).column
-  mark_missing {ws} b s at missing = refused s at (λ t ts e. by t.token (subst (NotNext b) e missing))
+  mark_missing {ws} b s at missing = refused s at (λ _. still_wanted (λ h. h)) (λ t ts e. by t.token (subst (NotNext b) e missing))
     where
       by : (tok : Token) → is_the_sign b tok ≡ false → (step tok (Mark b ∷ ws) ≡ None) ⊎ (tok ≡ BadByte)
       by (Word w) is = inl refl
@@ -283,10 +288,13 @@ module _ (s0 : State) (first : List Want) where
 
   ends : {A : Type 0} (x : A) → Stops [] (λ s. at_end (x, s))
   unfolding at_end
-  ends x = record { from = λ s at. next_post (λ _. Err (not_here s)) (Ok x) s at (λ tok u k. failed (refused s at (λ t ts e. inl (nothing t.token)))) (λ e. fine tt) }
+  ends x = record { from = λ s at. next_post (λ _. Err (not_here s)) (Ok x) s at (λ tok u k. failed (refused s at (λ e. absurd (some s k e)) (λ t ts e. inl (nothing t.token)))) (λ e. fine tt) }
     where
       nothing : (tok : Token) → step tok [] ≡ None
       nothing tok = refl
+
+      some : (s : State) {tok : Token} {u : State} → Next [] tok (length s.left) u → s.left ≡ [] → ⊥
+      some s k e = let short = k.short in let none = ap length e in absurd (omega (arith, short, none))
 
   -- ---- lists with commas
 
@@ -346,7 +354,7 @@ module _ (s0 : State) (first : List Want) where
 
   exponent_of_handles : {ws : List Want} → Handles fault_of (Numeral ∷ ws) ws text.exponent_of
   unfolding text.exponent_of
-  exponent_of_handles {ws} = record { each = by }
+  exponent_of_handles {ws} = record { needed = still_wanted (λ h. h); each = by }
     where
       by : (tok : Token) (m : ℕ) (u : State) → Next (Numeral ∷ ws) tok m u → Post fault_of (Goes m ws) (text.exponent_of tok u)
       by (Number n) m u k = if_post (text.is_wide n) (failed tt) (if_post (ltb 1000 n) (failed tt) (good ws n k refl))
@@ -365,7 +373,7 @@ module _ (s0 : State) (first : List Want) where
   variable_post vs meanings.OtherKind k is = failed tt
 
   no_summand : {ws : List Want} {s : State} → Wanted (Summands ∷ ws) s → NotNext plus s.left → NotNext minus s.left → Wanted ws s
-  no_summand {ws} {s} H unlike other = record { read = H.read; all = H.all; wants = H.wants; reached = H.reached; agree = by s.left H.agree unlike other; end = H.end }
+  no_summand {ws} {s} H unlike other = record { read = H.read; all = H.all; wants = H.wants; reached = H.reached; agree = by s.left H.agree unlike other; may_end = λ h. others_end (H.may_end h); end = H.end }
     where
       by : (ts : List Placed) → Agree H.wants (Summands ∷ ws) ts → NotNext plus ts → NotNext minus ts → Agree H.wants ws ts
       by [] h k l = tt
@@ -375,7 +383,7 @@ module _ (s0 : State) (first : List Want) where
     module _ (inside : State → text.Answer Polynomial) (I : (ws : List Want) → Takes fault_of (an_expression (Mark closing ∷ ws)) ws inside) where
       atom_of_handles : {ws : List Want} → Handles fault_of (Operand ∷ ws) ws (text.atom_of F meaning inside)
       unfolding text.atom_of text.constant
-      atom_of_handles {ws} = record { each = by }
+      atom_of_handles {ws} = record { needed = still_wanted (λ h. h); each = by }
         where
           sign_by : (m b : ℕ) (u : State) → Next (Operand ∷ ws) (Sign b) m u → (c : Bool) → eqb b opening ≡ c → Post fault_of (Goes m ws) (cond c (inside u) (Err (record { cause = causes.Syntax; place = u.start })))
           sign_by m b u k true is = let short = k.short in less (length u.left) m (omega (arith, short)) ((I ws).from u (k.good _ (ap (λ c. cond c (Some (an_expression (Mark closing ∷ ws))) None) is)))
@@ -449,7 +457,7 @@ module _ (s0 : State) (first : List Want) where
 
   word_of_handles : {ws : List Want} → Handles (λ e. e) (Name ∷ ws) ws word_of
   unfolding word_of
-  word_of_handles {ws} = record { each = by }
+  word_of_handles {ws} = record { needed = still_wanted (λ h. h); each = by }
     where
       by : (tok : Token) (m : ℕ) (u : State) → Next (Name ∷ ws) tok m u → Post (λ e. e) (Goes m ws) (word_of tok u)
       by (Word w) n u k = good ws w k refl
@@ -459,7 +467,7 @@ module _ (s0 : State) (first : List Want) where
 
   number_of_handles : {ws : List Want} → Handles (λ e. e) (Numeral ∷ ws) ws number_of
   unfolding number_of
-  number_of_handles {ws} = record { each = by }
+  number_of_handles {ws} = record { needed = still_wanted (λ h. h); each = by }
     where
       by : (tok : Token) (m : ℕ) (u : State) → Next (Numeral ∷ ws) tok m u → Post (λ e. e) (Goes m ws) (number_of tok u)
       by (Number m) n u k = good ws m k refl
@@ -492,6 +500,7 @@ module _ (s0 : State) (first : List Want) where
   declared_by_handles : {ws : List Want} (S : Session) → Handles (λ e. e) (Name ∷ ws) ws (names.declared_by S)
   unfolding names.declared_by
   declared_by_handles {ws} S = record {
+    needed = still_wanted (λ h. h);
     each = λ tok n u k. then_post _ (word_of_handles.each tok n u k)
         (λ w h. less (length w.1.left) n h.few ((option_takes (names.declared_as S w.0) (λ v s. Ok (v, s)) _ value_takes (refusal (cond (names.is_variable S w.0) kinds.Kind kinds.Unknown) (no_such_name (names.is_variable S w.0)))).from w.1 h.wanted));
   }
@@ -601,7 +610,7 @@ module _ (s0 : State) (first : List Want) where
       (λ v h. fine (record { wanted = h.wanted; few = h.few }))
 
   no_name : {s : State} → Wanted (PerhapsName ∷ []) s → s.left ≡ [] → Wanted [] s
-  no_name {s} H e = record { read = H.read; all = H.all; wants = H.wants; reached = H.reached; agree = subst (Agree H.wants []) (sym e) tt; end = H.end }
+  no_name {s} H e = record { read = H.read; all = H.all; wants = H.wants; reached = H.reached; agree = subst (Agree H.wants []) (sym e) tt; may_end = λ h. others_end (H.may_end h); end = H.end }
 
   perhaps_point_takes : (S : Session) (j : ℕ) → Takes (λ e. e) (PerhapsName ∷ []) [] (λ s. option_map_or (λ t. names.point_by S t.0 t.1 >>= λ at. Ok (questions.PureAt j at.0, at.1)) (next s) (Ok (questions.Pure j, s)))
   perhaps_point_takes S j = record {
@@ -626,11 +635,11 @@ module _ (s0 : State) (first : List Want) where
       then_takes numbers.exponent _ exponent_takes (λ e. then_takes (names.polynomial S) _ (polynomial_takes S) (λ u. then_takes (names.ideal S) _ (ideal_takes S) (λ j. value_takes _)))
 
   -- A word that names something of a fixed list.
-  named_post : {B : Type 0} {P : B → Type 0} {ws : List Want} (f : List ℕ × State → Result B LineFault) (s : State) → Wanted ws s
+  named_post : {B : Type 0} {P : B → Type 0} {ws : List Want} (f : List ℕ × State → Result B LineFault) (s : State) → Wanted ws s → (MayEnd ws → ⊥)
       → ((w : List ℕ) (u : State) → Next ws (Word w) (length s.left) u → Post (λ e. e) P (f (w, u)))
       → ((tok : Token) → ((w : List ℕ) → tok ≡ Word w → ⊥) → step tok ws ≡ None) → Post (λ e. e) P (word s >>= f)
   unfolding word word_of
-  named_post {P = P} {ws = ws} f s at each none = then_post f (next_post {P = λ w. Post (λ e. e) P (f w)} (λ t. word_of t.0 t.1) (Err (not_here s)) s at handle (λ e. failed (nothing_left s at e))) (λ w k. k)
+  named_post {P = P} {ws = ws} f s at needed each none = then_post f (next_post {P = λ w. Post (λ e. e) P (f w)} (λ t. word_of t.0 t.1) (Err (not_here s)) s at handle (λ e. failed (nothing_left s at needed e))) (λ w k. k)
     where
       handle : (tok : Token) (u : State) → Next ws tok (length s.left) u → Post (λ e. e) (λ w. Post (λ e. e) P (f w)) (word_of tok u)
       handle (Word w) u k = fine (each w u k)
@@ -640,7 +649,7 @@ module _ (s0 : State) (first : List Want) where
 
   question_takes : (S : Session) → Takes (λ e. e) (QuestionWord ∷ []) [] (question.question_at S)
   unfolding question.question_at
-  question_takes S = record { from = λ s at. named_post _ s at (λ w u k. by s w u k (question.ask_of w) refl) other }
+  question_takes S = record { from = λ s at. named_post _ s at (still_wanted (λ h. h)) (λ w u k. by s w u k (question.ask_of w) refl) other }
     where
       by : (s : State) (w : List ℕ) (u : State) → Next (QuestionWord ∷ []) (Word w) (length s.left) u → (o : Option Ask) → question.ask_of w ≡ o
           → Post (λ e. e) (Goes (length s.left) []) (option_map_or (λ a. question.arguments a S u) o (Err (fault_at kinds.Syntax u)))
@@ -717,7 +726,7 @@ module _ (s0 : State) (first : List Want) where
 
   order_stops : (S : Session) → Stops (OrderWord ∷ []) (statements.order S)
   unfolding statements.order
-  order_stops S = record { from = λ s at. named_post _ s at (λ w u k. by s w u k (statements.order_of w) refl) other }
+  order_stops S = record { from = λ s at. named_post _ s at (still_wanted (λ h. h)) (λ w u k. by s w u k (statements.order_of w) refl) other }
     where
       by : (s : State) (w : List ℕ) (u : State) → Next (OrderWord ∷ []) (Word w) (length s.left) u → (o : Option OrderName) → statements.order_of w ≡ o
           → Post (λ e. e) Anything (option_map_or (λ name. at_end (record S { order = name }, u)) o (Err (fault_at kinds.Syntax u)))
@@ -789,7 +798,7 @@ line_owed before ts f e = by (line_post s0 first before s0 begun) e
     alike (u ∷ us) = refl
 
     begun : Wanted s0 first first s0
-    begun = record { read = []; all = refl; wants = first; reached = refl; agree = alike ts; end = refl }
+    begun = record { read = []; all = refl; wants = first; reached = refl; agree = alike ts; may_end = λ h. h; end = refl }
 
     by : {r : Result (Option Session) LineFault} → Post s0 first (λ e. e) (Anything s0 first) r → r ≡ Err f → Blamed s0 first f.kind f.column
     by (fine h) is = absurd cc

@@ -13,7 +13,7 @@ use Rattle.fj_grammar.specs.FirstFault.{HasStatements, line_at, tokens_before}
 use Rattle.fj_grammar.specs.Grammar.{AreListed, HasTerms, IsCoordinate, IsNew, IsSession, tokens_of}
 use Rattle.fj_grammar.specs.Large.{HasLarge}
 use Rattle.fj_grammar.specs.Many.{AreTooMany, HaveWrongArity}
-use Rattle.fj_grammar.specs.Owed.{IsLineEnd, IsMisplaced, MayFollow}
+use Rattle.fj_grammar.specs.Owed.{IsLineEnd, IsMisplaced, IsUnfinished, MayFollow}
 use Rattle.fj_grammar.specs.Wrong.{BeginsLater, IsWrong}
 
 -- This token stands at a place.
@@ -55,8 +55,9 @@ pub record IsHighest (bytes : List ℕ) (place : Fault) : Type 0 where
   pub byte_at_bad_byte : place.kind ≡ kinds.Byte → StandsAt place bytes BadByte
   -- NoRing is reported at the first token of the session, where it is another statement's word
   pub no_ring_at_first : place.kind ≡ kinds.NoRing → (w : List ℕ) × StandsAt place bytes (Word w) × BeginsLater w × (tokens_to place bytes ≡ []) × MakeSession (lines_to place bytes) None
-  -- Syntax where the line ends, or at a token that may not stand there and at which no other kind has its cause
-  pub syntax_is_owed : place.kind ≡ kinds.Syntax → IsLineEnd place bytes ⊎ ((t : Token) × StandsAt place bytes t × (before : Option Session) × MakeSession (lines_to place bytes) before × IsMisplaced before (tokens_to place bytes) t)
+  -- Syntax where the line ends and may not, or at a token that may not stand there and at which no other kind has its cause
+  pub syntax_is_owed : place.kind ≡ kinds.Syntax → (before : Option Session) × MakeSession (lines_to place bytes) before
+      × ((IsLineEnd place bytes × IsUnfinished before (tokens_to place bytes)) ⊎ ((t : Token) × StandsAt place bytes t × IsMisplaced before (tokens_to place bytes) t))
   -- a wrong number stands where a number may stand, and a wrong word where a word may
   pub syntax_over_number : IsOfNumber place.kind → (n m : ℕ) × IsAt place bytes (Number n) (Number m)
   pub syntax_over_word : IsOfWord place.kind → (v w : List ℕ) × IsAt place bytes (Word v) (Word w)
