@@ -2,7 +2,7 @@
 use Rattle.std.proofs.Common.{◌≡◌, ℕ, zero, suc, ◌+◌, ◌%◌, ◌^◌, ◌<◌, ◌≤◌, Bool, true, false, cond, ◌||◌, leb, ltb, eqb, List, [], ◌∷◌, ◌++◌, length, map, Option, Some, None, Result, Ok, Err, refl, sym, ap, ◌∙◌, subst, arith, append_assoc, inl, inr, ◌⊎◌}
 use Rattle.std.specs.Option.{is_some, option_and_then, option_map, option_map_or}
 use Rattle.std.proofs.lemmas.List.{append-nil, map-append}
-use Rattle.fj_coeff.specs.Field.{Field}
+use Rattle.fj_coeff.specs.Field.{Field, is_prime}
 use Rattle.fj_coeff.specs.PrimeField.{prime_field}
 use Rattle.fj_theory.specs.Exponents.{origin}
 use Rattle.fj_theory.specs.PointIdeal.{variable_exponents}
@@ -714,7 +714,7 @@ module _ (s0 : State) (first : List Want) where
 
   prime_takes : {ws : List Want} → Takes (λ e. e) (Numeral ∷ ws) ws rings.prime
   unfolding rings.prime
-  prime_takes = then_takes number _ number_takes (λ n. if_takes (rings.is_prime n) _ _ (value_takes n) (refusal kinds.Prime (λ c. tt)))
+  prime_takes = then_takes number _ number_takes (λ n. if_takes (is_prime n) _ _ (value_takes n) (refusal kinds.Prime (λ c. tt)))
 
   variable_takes : {ws : List Want} (vs : List (List ℕ)) → Takes (λ e. e) (Name ∷ ws) ws (rings.variable vs)
   unfolding rings.variable
