@@ -165,7 +165,7 @@ module _ (s0 : State) (V : Sayings) where
   Fits kinds.Kind ts us = Words ts × WrongWord kinds.Kind ts us
   Fits kinds.Constant ts us = Words ts × WrongWord kinds.Constant ts us
   Fits kinds.Many ts us = Caused kinds.Many ts us
-  Fits kinds.Long ts us = Unit {0}
+  Fits kinds.Long ts us = ⊥
   Fits kinds.Byte ts us = (vs : List Token) × (us ≡ BadByte ∷ vs)
   Fits kinds.Syntax ts us = Unit {0}
   Fits kinds.NoRing ts us = WrongWord kinds.NoRing ts us

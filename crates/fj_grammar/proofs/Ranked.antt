@@ -151,6 +151,7 @@ pub kind_highest : KindIsHighest
 kind_highest bytes place H e = record {
   byte_over_others = λ stands. bad_there stands K.rest K.all K.at K.blames;
   byte_at_bad_byte = λ is. let x = fit kinds.Byte is in first_stands BadByte x.0 x.1 K.rest K.all K.at refl;
+  not_long = λ is. fit kinds.Long is;
   no_ring_at_first = λ is. let x = fit kinds.NoRing is in without_ring x.0 x.1 x.2 w.session (toks K.before) x.3 made before_it;
   syntax_is_owed = λ is. (w.session, made, owed (subst (λ k. Blamed s0 (Beginning (is_some w.session) ∷ []) k w.found.column) (kind_same ∙ is) (line_owed w.session all w.found (sym (line_is w.session l) ∙ w.wrong))));
   syntax_over_number = λ is. let x = number_follows s0 w.session (toks K.before) (toks K.rest) place.kind fits is in let at = x.1 in (at.0, x.0.0, (first_stands (Number at.0) at.1 at.2 K.rest K.all K.at refl, w.session, made, subst (λ ts. IsWrong w.session ts place.kind (Number at.0)) (sym before_it) at.3, subst (λ ts. MayFollow w.session ts (Number x.0.0)) (sym before_it) x.0.1));

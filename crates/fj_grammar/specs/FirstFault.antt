@@ -2,6 +2,7 @@
 use Rattle.std.specs.Prelude.{◌≡◌, ◌≢◌, ℕ, zero, ◌+◌, ◌-◌, ◌<◌, ◌≤◌, ◌⊎◌, nat_lt, List, [], take, filter, length, slice_index_or, All, Err}
 use Rattle.fj_text.specs.Token.{Placed, tokens_from}
 use Rattle.fj_script.specs.declared.fault.Fault.{Fault}
+use Rattle.fj_script.specs.declared.fault.FaultKind.TheVariants as kinds
 use Rattle.fj_grammar.specs.Grammar.{tokens_of}
 use Rattle.fj_script.specs.Script.{lines, script}
 
@@ -17,7 +18,7 @@ tokens_before column line = filter (λ t. nat_lt (t.start + 1) column) (tokens_f
 abbrev pub tokens_through : ℕ → List ℕ → List Placed
 tokens_through column line = take (length (tokens_before (column + 1) line) + 1) (tokens_from zero zero line)
 
--- At most 1,048,576 bytes, and a line with a token. Another session is Long, or has no ring, at 1:1.
+-- At most 1,048,576 bytes, and a line with a token.
 pub record HasStatements (bytes : List ℕ) : Type 0 where
   pub short : length bytes ≤ 1048576
   pub number : ℕ
@@ -47,3 +48,10 @@ NothingBeforeIsWrong =
 -- What stands through the place is wrong: a session that is the same through it has this fault, whatever follows.
 abbrev pub FaultIsKnown : Type 0
 FaultIsKnown = (bytes other : List ℕ) (place : Fault) → HasStatements bytes → HasStatements other → script bytes ≡ Err place → AreSameThrough place bytes other → script other ≡ Err place
+
+-- The other sessions: a longer one is Long at 1:1, and one without a token is NoRing there.
+abbrev pub OthersFailAtFirst : Type 0
+OthersFailAtFirst =
+    (bytes : List ℕ)
+    → (1048576 < length bytes → script bytes ≡ Err (record { kind = kinds.Long; line = 1; column = 1 }))
+    × (length bytes ≤ 1048576 → ((number : ℕ) → tokens_of (line_at number bytes) ≡ []) → script bytes ≡ Err (record { kind = kinds.NoRing; line = 1; column = 1 }))

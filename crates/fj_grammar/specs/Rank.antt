@@ -53,6 +53,7 @@ HasCause Is place bytes = (t : Token) × StandsAt place bytes t × (S : Session)
 pub record IsHighest (bytes : List ℕ) (place : Fault) : Type 0 where
   pub byte_over_others : StandsAt place bytes BadByte → place.kind ≡ kinds.Byte
   pub byte_at_bad_byte : place.kind ≡ kinds.Byte → StandsAt place bytes BadByte
+  pub not_long : place.kind ≡ kinds.Long → ⊥
   -- NoRing is reported at the first token of the session, where it is another statement's word
   pub no_ring_at_first : place.kind ≡ kinds.NoRing → (w : List ℕ) × StandsAt place bytes (Word w) × BeginsLater w × (tokens_to place bytes ≡ []) × MakeSession (lines_to place bytes) None
   -- Syntax where the line ends and may not, or at a token that may not stand there and at which no other kind has its cause
