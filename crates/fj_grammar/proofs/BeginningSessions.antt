@@ -77,7 +77,7 @@ module _ (s0 : State) where
   ring_whole : (p : ℕ) (vs : List (List ℕ)) (us : List Token) → Contains primes p → Variables vs us → CanGoOn None (Word (codes "ring") ∷ Number p ∷ us)
   ring_whole p vs us known l = ([], new_session p vs, subst (λ ws. IsRing (Word (codes "ring") ∷ Number p ∷ ws) (new_session p vs)) (sym (append-nil us)) (grammar.ring known l.0 l.1 l.2))
 
-  -- behind a comma, with another variable
+  -- after a comma, with another variable
   variable_next : (p : ℕ) (vs : List (List ℕ)) (us : List Token) → Contains primes p → Variables vs us → length vs < 7 → CanGoOnWith None (Word (codes "ring") ∷ Number p ∷ (us ++ Sign comma ∷ [])) (Word (other_word vs))
   variable_next p vs us known l few =
       let all = variables_more vs us (other_word vs) l few (other_word-is vs) in (

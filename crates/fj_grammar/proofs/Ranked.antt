@@ -46,7 +46,7 @@ ring_again S t ts f e = by t.token e
     by : (tok : Token) → tok ≡ Word (codes "ring") → (statements.statement (Some S) tok (after t ts) >>= λ T. Ok (Some T)) ≡ Err f → f.kind ≡ kinds.Syntax
     by tok e = subst (λ tok. (statements.statement (Some S) tok (after t ts) >>= λ T. Ok (Some T)) ≡ Err f → f.kind ≡ kinds.Syntax) (sym e) (λ h. let same : record { kind = kinds.Syntax; column = t.start } ≡ f = cc in sym (ap (λ g. g.kind) same))
 
--- A line that begins with `ring`, where another kind than Syntax is told, is the ring's.
+-- A line that begins with `ring`, where another kind than Syntax is reported, is the ring's.
 ring_first : (before : Option Session) (l : List ℕ) (f : LineFault) (us : List Token) → tokens_of l ≡ Word (codes "ring") ∷ us → statements.line before l ≡ Err f → (f.kind ≡ kinds.Syntax → ⊥) → (behind_lines before).HasRing → ⊥
 ring_first None l f us begins wrong other ring = ring
 ring_first (Some S) l f us begins wrong other ring = by (tokens_from zero zero l) begins (sym (line_is (Some S) l) ∙ wrong)

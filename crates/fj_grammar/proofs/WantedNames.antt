@@ -138,7 +138,7 @@ ask_plain asks.Threshold = more tt (more tt (more tt none))
 ask_plain asks.Pure = more tt (more tt none)
 ask_plain asks.Compatible = more tt (more tt (more tt none))
 
--- behind the word of an order or a question
+-- after the word of an order or a question
 keyword_next : (x : Want) → ((t : Token) → PlainThere (step t (x ∷ []))) → (ts : List Token) (ws : List Want) → run ts (x ∷ []) ≡ Some ws → (ts ≡ []) ⊎ ArePlain ws
 keyword_next x each [] ws e = inl refl
 keyword_next x each (t ∷ ts) ws e = inr (there_plain (run (t ∷ ts) (x ∷ [])) ws e (by (step t (x ∷ [])) (each t)))

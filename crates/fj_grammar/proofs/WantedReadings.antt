@@ -596,7 +596,7 @@ module _ (s0 : State) (first : List Want) where
       by (i, values.Nonconstant) = refusal kinds.Kind (λ c. tt)
       by (i, values.Constant) = refusal kinds.Kind (λ c. tt)
 
-  -- Behind the ideal of `fpure` only a word may stand.
+  -- After the ideal of `fpure` only a word may stand.
   as_name : {n : ℕ} {u : State} (tok : Token) → Next (PerhapsName ∷ []) tok n u → Next (Name ∷ []) tok n u
   as_name (Word w) k = record { good = k.good; bad = k.bad; short = k.short }
   as_name (Number m) k = record { good = λ vs is. absurd cc; bad = λ is. k.bad refl; short = k.short }

@@ -6,7 +6,7 @@ use Rattle.fj_script.specs.declared.fault.FaultKind.TheVariants as kinds
 use Rattle.fj_grammar.specs.Grammar.{tokens_of}
 use Rattle.fj_script.specs.Script.{lines, script}
 
--- The line with this number, counted from 1. Behind the last line there are lines without a token.
+-- The line with this number, counted from 1. After the last line there are lines without a token.
 abbrev pub line_at : ℕ → List ℕ → List ℕ
 line_at number bytes = slice_index_or (lines bytes) (number - 1) []
 
@@ -14,7 +14,7 @@ line_at number bytes = slice_index_or (lines bytes) (number - 1) []
 abbrev pub tokens_before : ℕ → List ℕ → List Placed
 tokens_before column line = filter (λ t. nat_lt (t.start + 1) column) (tokens_from zero zero line)
 
--- The tokens of a line that start up to a column, counted from 1, and the one behind them.
+-- The tokens of a line that start up to a column, counted from 1, and the one after them.
 abbrev pub tokens_through : ℕ → List ℕ → List Placed
 tokens_through column line = take (length (tokens_before (column + 1) line) + 1) (tokens_from zero zero line)
 
@@ -29,13 +29,13 @@ pub record AreSameBefore (place : Fault) (bytes other : List ℕ) : Type 0 where
   pub lines_before : take (place.line - 1) (lines bytes) ≡ take (place.line - 1) (lines other)
   pub tokens : tokens_before place.column (line_at place.line bytes) ≡ tokens_before place.column (line_at place.line other)
 
--- Two sessions are the same through a place and the token behind it; where the line of the one ends there, so does that of
+-- Two sessions are the same through a place and the token after it; where the line of the one ends there, so does that of
 -- the other.
 pub record AreSameThrough (place : Fault) (bytes other : List ℕ) : Type 0 where
   pub lines_before : take (place.line - 1) (lines bytes) ≡ take (place.line - 1) (lines other)
   pub tokens : tokens_through place.column (line_at place.line bytes) ≡ tokens_through place.column (line_at place.line other)
 
--- A fault stands in a later line, or in this line behind the start of each token before the place.
+-- A fault stands in a later line, or in this line after the start of each token before the place.
 abbrev pub StandsBehind : Fault → List ℕ → Fault → Type 0
 StandsBehind place bytes fault = (place.line < fault.line) ⊎ ((fault.line ≡ place.line) × All (λ t. t.start + 1 < fault.column) (tokens_before place.column (line_at place.line bytes)))
 

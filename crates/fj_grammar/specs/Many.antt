@@ -8,7 +8,7 @@ use Rattle.fj_grammar.specs.Grammar.{AreListed, HasTerms, IsCoordinate, IsNew}
 abbrev pub Declares : List ℕ → Type 0
 Declares keyword = (keyword ≡ codes "poly") ⊎ (keyword ≡ codes "ideal") ⊎ (keyword ≡ codes "point")
 
--- Tokens up to one at which there are too many of something, in a line behind this session. No higher kind stands there: the
+-- Tokens up to one at which there are too many of something, in a line after this session. No higher kind stands there: the
 -- name is none of the session's, and each value that is formed in an expression is within its limits.
 pub data AreTooMany (S : Session) : List Token → Type 0 where
   questions : 4096 ≤ length S.asked → AreTooMany S (Word (codes "ask") ∷ [])
@@ -18,7 +18,7 @@ pub data AreTooMany (S : Session) : List Token → Type 0 where
   generator_terms : {name : List ℕ} {ts : List Token} {fs : List Terms} → IsNew S name → AreListed (HasTerms S) ts fs → length fs ≤ 64 → 1000000 < S.terms + terms_in fs
       → AreTooMany S (Word (codes "ideal") ∷ Word name ∷ Sign equals ∷ Sign opening ∷ ts)
 
--- Tokens up to a comma behind a coordinate for each variable, or up to a parenthesis behind too few, in a line behind this session.
+-- Tokens up to a comma after a coordinate for each variable, or up to a parenthesis after too few, in a line after this session.
 pub data HaveWrongArity (S : Session) : List Token → Type 0 where
   too_many : {name : List ℕ} {ts : List Token} {cs : List ℕ} → IsNew S name → AreListed (IsCoordinate S.prime) ts cs → length cs ≡ length S.variables
       → HaveWrongArity S (Word (codes "point") ∷ Word name ∷ Sign equals ∷ Sign opening ∷ ts ++ Sign comma ∷ [])

@@ -1,4 +1,4 @@
--- What stands at the place of a Byte, a NoRing and a Syntax, and what doesn't.
+-- What is at the place of a Syntax, and what is not: the causes of other kinds.
 use Rattle.std.specs.Prelude.{◌≡◌, ℕ, zero, ◌+◌, ◌⊎◌, List, [], ◌∷◌, ◌++◌, drop, Option, Some, None, codes}
 use Rattle.fj_text.specs.Token.{Token, Word, Number, Placed, tokens_from}
 use Rattle.fj_script.specs.declared.fault.Fault.{Fault}

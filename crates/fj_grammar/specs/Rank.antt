@@ -1,5 +1,5 @@
--- The rank of kinds at the place of a fault: of each two that could stand at one place, the higher one is told. And its kind has
--- its cause.
+-- The rank of kinds at the place of a fault: of two that could stand there the higher one is reported. And each kind has its cause
+-- at its place.
 use Rattle.std.specs.Prelude.{◌≡◌, ◌≢◌, ℕ, zero, ◌+◌, ◌-◌, ◌^◌, ◌<◌, ◌≤◌, ◌⊎◌, List, [], ◌∷◌, ◌++◌, length, map, take, All, Contains, Option, None, Err, codes}
 use Rattle.fj_text.specs.Token.{Token, Word, Number, Sign, BadByte, Placed, opening, closing, tokens_from}
 use Rattle.fj_script.specs.declared.fault.Fault.{Fault}
@@ -31,25 +31,25 @@ tokens_to place bytes = map (λ t. t.token) (tokens_before place.column (line_at
 abbrev pub lines_to : Fault → List ℕ → List (List Token)
 lines_to place bytes = map tokens_of (take (place.line - 1) (lines bytes))
 
--- The first token stands at a place, and behind the session that the lines before make it is wrong in the way that is told. A
--- statement may have the second one there: the tokens before go on with it, or it comes behind one of the two beginnings that can't.
+-- The first token stands at a place, and after the session that the lines before make it is wrong in the way that is reported. A
+-- statement may have the second one there: the tokens before go on with it, or it comes after one of the two beginnings that can't.
 abbrev pub IsAt : Fault → List ℕ → Token → Token → Type 0
 IsAt place bytes t u =
     StandsAt place bytes t
     × (before : Option Session) × MakeSession (lines_to place bytes) before × IsWrong before (tokens_to place bytes) place.kind t × MayFollow before (tokens_to place bytes) u
 
--- The kinds that are told at a number, and those that are told at a word.
+-- The kinds that are reported at a number, and those that are reported at a word.
 abbrev pub IsOfNumber : FaultKind → Type 0
 IsOfNumber kind = (kind ≡ kinds.Prime) ⊎ (kind ≡ kinds.Wide) ⊎ (kind ≡ kinds.Range)
 
 abbrev pub IsOfWord : FaultKind → Type 0
 IsOfWord kind = (kind ≡ kinds.Vars) ⊎ (kind ≡ kinds.Taken) ⊎ (kind ≡ kinds.Unknown) ⊎ (kind ≡ kinds.Kind) ⊎ (kind ≡ kinds.Constant)
 
--- A token stands at the place, and behind the session that the lines before make the tokens of the line through it are such tokens.
+-- A token stands at the place, and after the session that the lines before make the tokens of the line through it are such tokens.
 abbrev pub HasCause : (Session → List Token → Type 0) → Fault → List ℕ → Type 0
 HasCause Is place bytes = (t : Token) × StandsAt place bytes t × (S : Session) × IsSession (lines_to place bytes) S × Is S (tokens_to place bytes ++ t ∷ [])
 
--- Of two kinds that could stand at one place the lower one is told only where the higher one doesn't stand.
+-- Of two kinds that could stand at one place the lower one is reported only where the higher one doesn't stand.
 pub record IsHighest (bytes : List ℕ) (place : Fault) : Type 0 where
   pub byte_over_others : StandsAt place bytes BadByte → place.kind ≡ kinds.Byte
   pub byte_at_bad_byte : place.kind ≡ kinds.Byte → StandsAt place bytes BadByte

@@ -1,4 +1,4 @@
--- What is wrong with the number or the word at which a fault is told.
+-- What is wrong with the number or the word at which a fault is reported.
 use Rattle.std.specs.Prelude.{◌≡◌, ℕ, ◌^◌, ◌<◌, ◌≤◌, ◌⊎◌, false, List, [], drop, Contains, Option, Some, None, codes}
 use Rattle.fj_coeff.specs.Field.{primes}
 use Rattle.fj_text.specs.Token.{Token, Word, Number}
@@ -15,8 +15,8 @@ IsNameIn S w = Contains S.variables w ⊎ ((v : Value) × Contains S.values (w, 
 abbrev pub BeginsLater : List ℕ → Type 0
 BeginsLater w = (w ≡ codes "order") ⊎ (w ≡ codes "budget") ⊎ (w ≡ codes "poly") ⊎ (w ≡ codes "ideal") ⊎ (w ≡ codes "point") ⊎ (w ≡ codes "ask")
 
--- A token that is wrong in this way behind these tokens of its line: of the ring's line, where there is no session yet, and else
--- of a line behind this session.
+-- A token that is wrong in this way after these tokens of its line: of the ring's line, where there is no session yet, and else
+-- of a line after this session.
 pub data IsWrong : Option Session → List Token → FaultKind → Token → Type 0 where
   no_ring : {w : List ℕ} → BeginsLater w → IsWrong None [] kinds.NoRing (Word w)
   no_prime : {ts : List Token} {n : ℕ} → (Contains primes n → ⊥) → IsWrong None ts kinds.Prime (Number n)

@@ -22,7 +22,7 @@ pub fn nothing_before_is_wrong()
     ensures { NothingBeforeIsWrong }
 {}
 
-/// A fault is known with the token behind its place: a session that is the same through that token has this very fault,
+/// A fault is known with the token after its place: a session that is the same through that token has this very fault,
 /// whatever follows.
 pub fn fault_is_known()
     ensures { FaultIsKnown }
@@ -30,7 +30,7 @@ pub fn fault_is_known()
 
 /// The text before the place of a fault is legal: its tokens can go on to the ring's line, where there is none yet, and
 /// else to a statement, of this session or of one in which the same words mean the same. Two beginnings are doomed and
-/// yet not wrong: a comma behind seven variables, and a fraction with numerator 0 where t has to be above 0.
+/// yet not wrong: a comma after seven variables, and a fraction with numerator 0 where t has to be above 0.
 pub fn beginning_is_legal()
     ensures { BeginningIsLegal }
 {}
