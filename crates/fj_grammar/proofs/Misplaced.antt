@@ -7,8 +7,9 @@ use Rattle.fj_script.specs.Question.{ask_of}
 use Rattle.fj_script.specs.Session.{Session}
 use Rattle.fj_script.specs.Statement.{keyword_of}
 use Rattle.fj_grammar.specs.Beginning as beginning
-use Rattle.fj_grammar.specs.Beginning.{IsDoomedWith}
-use Rattle.fj_grammar.specs.Owed.{IsMisplaced, IsUnfinished, IsWhole, MayFollow, NeedKeyword}
+use Rattle.fj_grammar.specs.Beginning.{CanGoOn, IsDoomedWith}
+use Rattle.fj_grammar.specs.Owed as owed
+use Rattle.fj_grammar.specs.Owed.{AreAlike, IsMisplaced, IsUnfinished, IsWhole, NeedKeyword}
 use Rattle.fj_grammar.specs.Wrong.{BeginsLater}
 use Rattle.fj_grammar.proofs.Wanted.{MayEnd, Want, Beginning, Variables, run, run_behind, run_front, step}
 use Rattle.fj_grammar.proofs.WantedGrammar.{IsFull, MayCome, arity_has_come, come, comes_front, full_comes, large_has_come, many_has_come, ring_full, statement_full, variables_run}
@@ -43,65 +44,79 @@ later_comes w (inr (inr (inr (inl e)))) = subst (λ v. MayCome (Word v ∷ []) (
 later_comes w (inr (inr (inr (inr (inl e))))) = subst (λ v. MayCome (Word v ∷ []) (Beginning false ∷ [])) (sym e) (come refl)
 later_comes w (inr (inr (inr (inr (inr e))))) = subst (λ v. MayCome (Word v ∷ []) (Beginning false ∷ [])) (sym e) (come refl)
 
--- These tokens came, and such a token isn't wanted.
-module _ (first : List Want) (ts : List Token) (wants : List Want) (reached : run ts first ≡ Some wants) where
-  never : (t : Token) (more : List Token) → step t wants ≡ None → MayCome (ts ++ t ∷ more) first → ⊥
-  never t more refused H = absurd (let none : run (ts ++ t ∷ more) first ≡ None = run_behind ts (t ∷ more) first wants reached ∙ ap (option_and_then (run more)) refused in let both = sym none ∙ H.reached in cc)
+-- ---- tokens that are alike
 
-may_not_follow : (before : Option Session) (ts : List Token) (wants : List Want) → run ts (Beginning (is_some before) ∷ []) ≡ Some wants → (t : Token) → step t wants ≡ None → MayFollow before ts t → ⊥
-may_not_follow None ts wants reached t refused (inl (more, T, h)) = never (Beginning false ∷ []) ts wants reached t more refused (full_comes (ring_full h))
-may_not_follow (Some S) ts wants reached t refused (inl (other, alike, more, T, h)) = never (Beginning true ∷ []) ts wants reached t more refused (full_comes (statement_full h))
-may_not_follow before ts wants reached t refused (inr d) = never (Beginning (is_some before) ∷ []) ts wants reached t [] refused (doomed_comes (is_some before) d wants reached)
-
-pub misplaced : (before : Option Session) (ts : List Token) (t : Token) (wants : List Want) → run ts (Beginning (is_some before) ∷ []) ≡ Some wants → step t wants ≡ None → IsMisplaced before ts t
-misplaced before ts t wants reached refused = record {
-  no_statement = may_not_follow before ts wants reached t refused;
-  no_number = λ n m is. may_not_follow before ts wants reached (Number m) (same_number m n wants ∙ ap (λ u. step u wants) (sym is) ∙ refused);
-  no_name = λ v w is. name v w is (needs_keyword (is_some before) ts wants reached);
-  no_later_statement = λ w none nothing is other. absurd (first_word w none nothing is other);
-  nothing_large = λ S is h. never (Beginning true ∷ []) ts wants (with_ring S is) t [] refused (large_has_come h);
-  right_arity = λ S is h. never (Beginning true ∷ []) ts wants (with_ring S is) t [] refused (arity_has_come h);
-  not_too_many = λ S is h. never (Beginning true ∷ []) ts wants (with_ring S is) t [] refused (many_has_come h);
-}
+run_last : (ts : List Token) (t : Token) (ws : List Want) → run (ts ++ t ∷ []) ws ≡ option_and_then (step t) (run ts ws)
+run_last [] t ws = by (step t ws)
   where
-    with_ring : (S : Session) → before ≡ Some S → run ts (Beginning true ∷ []) ≡ Some wants
-    with_ring S is = subst (λ o. run ts (Beginning (is_some o) ∷ []) ≡ Some wants) is reached
+    by : (o : Option (List Want)) → option_and_then (run []) o ≡ o
+    by None = refl
+    by (Some vs) = refl
+run_last (u ∷ ts) t ws = by (step u ws) (run_last ts t)
+  where
+    by : (o : Option (List Want)) → ((vs : List Want) → run (ts ++ t ∷ []) vs ≡ option_and_then (step t) (run ts vs)) → option_and_then (run (ts ++ t ∷ [])) o ≡ option_and_then (step t) (option_and_then (run ts) o)
+    by None rec = refl
+    by (Some vs) rec = rec vs
 
-    name : (v w : List ℕ) → t ≡ Word v → NeedKeyword ts ⊎ ArePlain wants → MayFollow before ts (Word w) → NeedKeyword ts
-    name v w is (inl h) k = h
-    name v w is (inr h) k = absurd (may_not_follow before ts wants reached (Word w) (same_name w v wants h ∙ ap (λ u. step u wants) (sym is) ∙ refused) k)
+module _ (ring : Bool) where
+  abbrev first : List Want
+  first = Beginning ring ∷ []
 
-    first_word : (w : List ℕ) → before ≡ None → ts ≡ [] → t ≡ Word w → BeginsLater w → ⊥
-    first_word w none nothing is other =
-        never (Beginning false ∷ []) ts wants (subst (λ o. run ts (Beginning (is_some o) ∷ []) ≡ Some wants) none reached) t [] refused
-        (subst (λ us. MayCome us (Beginning false ∷ [])) (ap (λ u. u ∷ []) (sym is) ∙ ap (λ us. us ++ t ∷ []) (sym nothing)) (later_comes w other))
+  alike_last : (ts us : List Token) (t u : Token) → run ts first ≡ run us first → ((ws : List Want) → run ts first ≡ Some ws → step t ws ≡ step u ws) → run (ts ++ t ∷ []) first ≡ run (us ++ u ∷ []) first
+  alike_last ts us t u e each = run_last ts t first ∙ by (run ts first) refl ∙ ap (option_and_then (step u)) e ∙ sym (run_last us u first)
+    where
+      by : (o : Option (List Want)) → run ts first ≡ o → option_and_then (step t) o ≡ option_and_then (step u) o
+      by None is = refl
+      by (Some ws) is = each ws is
 
--- ---- the end of a line
+  alike_run : {ts us : List Token} → AreAlike ts us → run ts first ≡ run us first
+  alike_run owed.none = refl
+  alike_run (owed.same ts us t h) = alike_last ts us t t (alike_run h) (λ ws is. refl)
+  alike_run (owed.number ts us n m h) = alike_last ts us (Number n) (Number m) (alike_run h) (λ ws is. same_number n m ws)
+  alike_run (owed.name ts us v w h named) = alike_last ts us (Word v) (Word w) (alike_run h) (λ ws is. by ws (needs_keyword ring ts ws is))
+    where
+      by : (ws : List Want) → NeedKeyword ts ⊎ ArePlain ws → step (Word v) ws ≡ step (Word w) ws
+      by ws (inl k) = absurd (named k)
+      by ws (inr k) = same_name v w ws k
+
+-- ---- a token that isn't wanted
+
+can_come : (before : Option Session) (ts : List Token) → CanGoOn before ts → MayCome ts (Beginning (is_some before) ∷ [])
+can_come None ts (more, T, h) = let x = ring_full h in come (run_front ts more (Beginning false ∷ []) x.wants x.reached).1
+can_come (Some S) ts (other, alike, more, T, h) = let x = statement_full h in come (run_front ts more (Beginning true ∷ []) x.wants x.reached).1
 
 whole_full : (before : Option Session) (ts : List Token) → IsWhole before ts → IsFull ts (Beginning (is_some before) ∷ [])
 whole_full None ts (T, h) = ring_full h
 whole_full (Some S) ts (other, alike, T, h) = statement_full h
 
-ends_with : (ts us : List Token) (a b : Token) (first xs wants : List Want) → run ts first ≡ Some wants → ts ≡ us ++ a ∷ [] → run us first ≡ Some xs → step a xs ≡ step b xs → run (us ++ b ∷ []) first ≡ Some wants
-ends_with ts us a b first xs wants reached e front same =
-    run_behind us (b ∷ []) first xs front ∙ ap (option_and_then (run [])) (sym same) ∙ sym (run_behind us (a ∷ []) first xs front) ∙ ap (λ vs. run vs first) (sym e) ∙ reached
-
-pub unfinished : (before : Option Session) (ts : List Token) (wants : List Want) → run ts (Beginning (is_some before) ∷ []) ≡ Some wants → (MayEnd wants → ⊥) → IsUnfinished before ts
-unfinished before ts wants reached more_wanted = record {
-  no_statement = λ h. not_full ts reached (whole_full before ts h);
-  no_number = λ us n m e h. let x = front us (Number n) e in not_full (us ++ Number m ∷ []) (ends_with ts us (Number n) (Number m) first x.0 wants reached e x.1 (same_number n m x.0)) (whole_full before (us ++ Number m ∷ []) h);
-  no_name = λ us v w e h. let x = front us (Word v) e in name us v w e x.0 x.1 (needs_keyword (is_some before) us x.0 x.1) h;
+pub misplaced : (before : Option Session) (ts : List Token) (t : Token) (wants : List Want) → run ts (Beginning (is_some before) ∷ []) ≡ Some wants → step t wants ≡ None → IsMisplaced before ts t
+misplaced before ts t wants reached refused = record {
+  no_statement = λ us alike h. never us alike (can_come before us h);
+  not_doomed = λ u alike d. never (ts ++ u ∷ []) alike (doomed_comes (is_some before) d wants reached);
+  no_later_statement = λ w none nothing is other. first_word w none nothing is other;
+  nothing_large = λ S is h. not_with S is (large_has_come h);
+  right_arity = λ S is h. not_with S is (arity_has_come h);
+  not_too_many = λ S is h. not_with S is (many_has_come h);
 }
   where
-    first : List Want
-    first = Beginning (is_some before) ∷ []
+    nowhere : run (ts ++ t ∷ []) (Beginning (is_some before) ∷ []) ≡ None
+    nowhere = run_last ts t (Beginning (is_some before) ∷ []) ∙ ap (option_and_then (step t)) reached ∙ refused
 
-    not_full : (us : List Token) → run us first ≡ Some wants → IsFull us first → ⊥
-    not_full us e H = let same : H.wants ≡ wants = (let both = sym H.reached ∙ e in cc) in more_wanted (subst MayEnd same H.may_end)
+    never : (us : List Token) → AreAlike (ts ++ t ∷ []) us → MayCome us (Beginning (is_some before) ∷ []) → ⊥
+    never us alike H = let both = sym nowhere ∙ alike_run (is_some before) alike ∙ H.reached in cc
 
-    front : (us : List Token) (t : Token) → ts ≡ us ++ t ∷ [] → (xs : List Want) × (run us first ≡ Some xs)
-    front us t e = let x = run_front us (t ∷ []) first wants (ap (λ vs. run vs first) (sym e) ∙ reached) in (x.0, x.1)
+    not_with : (S : Session) → before ≡ Some S → MayCome (ts ++ t ∷ []) (Beginning true ∷ []) → ⊥
+    not_with S is H = let both = sym (subst (λ o. run (ts ++ t ∷ []) (Beginning (is_some o) ∷ []) ≡ None) is nowhere) ∙ H.reached in cc
 
-    name : (us : List Token) (v w : List ℕ) → ts ≡ us ++ Word v ∷ [] → (xs : List Want) → run us first ≡ Some xs → NeedKeyword us ⊎ ArePlain xs → IsWhole before (us ++ Word w ∷ []) → NeedKeyword us
-    name us v w e xs came (inl h) k = h
-    name us v w e xs came (inr h) k = absurd (not_full (us ++ Word w ∷ []) (ends_with ts us (Word v) (Word w) first xs wants reached e came (same_name v w xs h)) (whole_full before (us ++ Word w ∷ []) k))
+    first_word : (w : List ℕ) → before ≡ None → ts ≡ [] → t ≡ Word w → BeginsLater w → ⊥
+    first_word w none nothing is other =
+        let here : run (ts ++ t ∷ []) (Beginning false ∷ []) ≡ None = subst (λ o. run (ts ++ t ∷ []) (Beginning (is_some o) ∷ []) ≡ None) none nowhere in
+        let H = later_comes w other in
+        let both = sym here ∙ ap (λ us. run (us ++ t ∷ []) (Beginning false ∷ [])) nothing ∙ ap (λ u. run (u ∷ []) (Beginning false ∷ [])) is ∙ H.reached in
+        cc
+
+pub unfinished : (before : Option Session) (ts : List Token) (wants : List Want) → run ts (Beginning (is_some before) ∷ []) ≡ Some wants → (MayEnd wants → ⊥) → IsUnfinished before ts
+unfinished before ts wants reached more_wanted us alike h =
+    let x = whole_full before us h in
+    let same : x.wants ≡ wants = (let both = sym x.reached ∙ sym (alike_run (is_some before) alike) ∙ reached in cc) in
+    more_wanted (subst MayEnd same x.may_end)

@@ -13,7 +13,7 @@ use Rattle.fj_grammar.specs.FirstFault.{HasStatements, line_at, tokens_before}
 use Rattle.fj_grammar.specs.Grammar.{AreListed, HasTerms, IsCoordinate, IsNew, IsSession, tokens_of}
 use Rattle.fj_grammar.specs.Large.{HasLarge}
 use Rattle.fj_grammar.specs.Many.{AreTooMany, HaveWrongArity}
-use Rattle.fj_grammar.specs.Owed.{IsLineEnd, IsMisplaced, IsUnfinished, MayFollow}
+use Rattle.fj_grammar.specs.Owed.{IsLineEnd, IsMisplaced, IsUnfinished}
 use Rattle.fj_grammar.specs.Wrong.{BeginsLater, IsWrong}
 
 -- This token stands at a place.
@@ -36,7 +36,7 @@ lines_to place bytes = map tokens_of (take (place.line - 1) (lines bytes))
 abbrev pub IsAt : Fault → List ℕ → Token → Token → Type 0
 IsAt place bytes t u =
     StandsAt place bytes t
-    × (before : Option Session) × MakeSession (lines_to place bytes) before × IsWrong before (tokens_to place bytes) place.kind t × MayFollow before (tokens_to place bytes) u
+    × (before : Option Session) × MakeSession (lines_to place bytes) before × IsWrong before (tokens_to place bytes) place.kind t × (CanGoOnWith before (tokens_to place bytes) u ⊎ IsDoomedWith (tokens_to place bytes) u)
 
 -- The kinds that are reported at a number, and those that are reported at a word.
 abbrev pub IsOfNumber : FaultKind → Type 0
