@@ -1,9 +1,9 @@
 -- What may come next in a line, as a stack of what is still wanted. Values and limits don't matter: any number may stand where
 -- one may, any word where a name may, and lists and parentheses are as long and as deep as one likes.
-use Rattle.std.proofs.Common.{◌≡◌, ℕ, ◌==◌, Bool, true, false, cond, eqb, List, [], ◌∷◌, ◌++◌, Option, Some, None, refl, ap, ◌∙◌}
+use Rattle.std.proofs.Common.{◌≡◌, ℕ, ◌==◌, ◌≤◌, Bool, true, false, cond, eqb, List, [], ◌∷◌, ◌++◌, length, Option, Some, None, refl, sym, ap, ◌∙◌, subst, arith}
 use Rattle.std.specs.Option.{is_some, option_and_then, option_map, option_map_or}
-use Rattle.fj_text.specs.State.{is_the_sign}
-use Rattle.fj_text.specs.Token.{Token, Word, Number, Sign, BadByte, caret, closing, minus, opening, plus, star}
+use Rattle.fj_text.specs.State.{State, after, after_sign, is_the_sign, next}
+use Rattle.fj_text.specs.Token.{Token, Word, Number, Sign, BadByte, Placed, caret, closing, minus, opening, plus, star}
 use Rattle.fj_script.specs.declared.ask.Ask.{Ask}
 use Rattle.fj_script.specs.declared.ask.Ask.TheVariants as asks
 use Rattle.fj_script.specs.declared.statement.Keyword.{Keyword}
@@ -232,3 +232,33 @@ neither_step ws (Number n) unlike other = refl
 neither_step ws (Sign b) unlike other =
     ap (λ c. cond c (Some (a_term (Summands ∷ ws))) (cond (eqb b minus) (Some (a_term (Summands ∷ ws))) (step (Sign b) ws))) unlike ∙ ap (λ c. cond c (Some (a_term (Summands ∷ ws))) (step (Sign b) ws)) other
 neither_step ws BadByte unlike other = refl
+
+-- ---- the next sign
+
+-- No such sign is next.
+abbrev pub NotNext : ℕ → List Placed → Type 0
+NotNext b [] = Unit {0}
+NotNext b (t ∷ ts) = is_the_sign b t.token ≡ false
+
+-- what follows a sign, where it is next, and something else where it isn't
+pub on_sign : {X : Type 0} (Z : X → Type 0) (b : ℕ) (f : State → X) (d : X) (s : State) → ((t : Placed) (ts : List Placed) → s.left ≡ t ∷ ts → is_the_sign b t.token ≡ true → Z (f (after t ts))) → (NotNext b s.left → Z d) → Z (option_map_or f (after_sign b s) d)
+unfolding after_sign next
+on_sign {X} Z b f d s taken absent = by s.left refl
+  where
+    test : (t : Placed) (ts : List Placed) → s.left ≡ t ∷ ts → (c : Bool) → is_the_sign b t.token ≡ c → Z (option_map_or f (cond c (Some (after t ts)) None) d)
+    test t ts e true is = taken t ts e is
+    test t ts e false is = absent (subst (NotNext b) (sym e) is)
+
+    by : (ts : List Placed) → s.left ≡ ts → Z (option_map_or f (after_sign b (record { left = ts; start = s.start; end = s.end })) d)
+    by [] e = absent (subst (NotNext b) (sym e) tt)
+    by (t ∷ ts) e = test t ts e (is_the_sign b t.token) refl
+
+pub none_left : (s : State) → length s.left ≤ 0 → s.left ≡ []
+none_left s h = by s.left h
+  where
+    by : (ts : List Placed) → length ts ≤ 0 → ts ≡ []
+    by [] k = refl
+    by (t ∷ ts) k = absurd (omega arith)
+
+pub left_none : (b : ℕ) (s : State) → s.left ≡ [] → NotNext b s.left
+left_none b s e = subst (NotNext b) (sym e) tt

@@ -9,7 +9,6 @@ use Rattle.fj_theory.specs.PointIdeal.{variable_exponents}
 use Rattle.fj_theory.specs.Polynomial.{Polynomial, negation, product, sum, term}
 use Rattle.fj_plain.specs.declared.order_name.OrderName.{OrderName}
 use Rattle.fj_text.specs.declared.fault.Cause.TheVariants as causes
-use Rattle.fj_text.specs.declared.fault.Fault as faults
 use Rattle.fj_text.specs.declared.scope.Meaning.{Meaning}
 use Rattle.fj_text.specs.declared.scope.Meaning.TheVariants as meanings
 use Rattle.fj_text.specs.Expression as text
@@ -21,7 +20,6 @@ use Rattle.fj_script.specs.declared.ask.Ask.TheVariants as asks
 use Rattle.fj_script.specs.declared.fault.FaultKind.{FaultKind}
 use Rattle.fj_script.specs.declared.fault.FaultKind.TheVariants as kinds
 use Rattle.fj_script.specs.declared.fault.LineFault.{LineFault}
-use Rattle.fj_script.specs.declared.question.Question.{Question}
 use Rattle.fj_script.specs.declared.question.Question.TheVariants as questions
 use Rattle.fj_script.specs.declared.statement.Keyword.{Keyword}
 use Rattle.fj_script.specs.declared.statement.Keyword.TheVariants as keywords
@@ -38,33 +36,7 @@ use Rattle.fj_script.specs.Session.{Session, Terms, Poly, Ideal, Point, ask, dec
 use Rattle.fj_script.specs.Statement as statements
 use Rattle.fj_grammar.proofs.Beginnings.{end_last, toks}
 use Rattle.fj_grammar.proofs.TwoReadings.{line_from, mapped}
-use Rattle.fj_grammar.proofs.Wanted.{MayEnd, Want, Beginning, Coordinates, Denominator, Factors, Generators, Mark, Name, Negative, Numeral, Operand, OrderWord, PerhapsName, Power, QuestionWord, Summands, Variables, a_coordinate, a_term, an_expression, IsOptional, coordinates_optional, denominator_optional, factors_optional, generators_optional, minus_step, negative_optional, neither_step, others_end, plus_step, power_optional, run, run_behind, step, still_wanted, variables_optional, wants_of_ask, wants_of_keyword}
-
-abbrev NotNext : ℕ → List Placed → Type 0
-NotNext b [] = Unit {0}
-NotNext b (t ∷ ts) = is_the_sign b t.token ≡ false
-
-on_sign : {X : Type 0} (Z : X → Type 0) (b : ℕ) (f : State → X) (d : X) (s : State) → ((t : Placed) (ts : List Placed) → s.left ≡ t ∷ ts → is_the_sign b t.token ≡ true → Z (f (after t ts))) → (NotNext b s.left → Z d) → Z (option_map_or f (after_sign b s) d)
-unfolding after_sign next
-on_sign {X} Z b f d s taken missing = by s.left refl
-  where
-    test : (t : Placed) (ts : List Placed) → s.left ≡ t ∷ ts → (c : Bool) → is_the_sign b t.token ≡ c → Z (option_map_or f (cond c (Some (after t ts)) None) d)
-    test t ts e true is = taken t ts e is
-    test t ts e false is = missing (subst (NotNext b) (sym e) is)
-
-    by : (ts : List Placed) → s.left ≡ ts → Z (option_map_or f (after_sign b (record { left = ts; start = s.start; end = s.end })) d)
-    by [] e = missing (subst (NotNext b) (sym e) tt)
-    by (t ∷ ts) e = test t ts e (is_the_sign b t.token) refl
-
-none_left : (s : State) → length s.left ≤ 0 → s.left ≡ []
-none_left s h = by s.left h
-  where
-    by : (ts : List Placed) → length ts ≤ 0 → ts ≡ []
-    by [] k = refl
-    by (t ∷ ts) k = absurd (omega arith)
-
-left_none : (b : ℕ) (s : State) → s.left ≡ [] → NotNext b s.left
-left_none b s e = subst (NotNext b) (sym e) tt
+use Rattle.fj_grammar.proofs.Wanted.{MayEnd, NotNext, Want, Beginning, Coordinates, Denominator, Factors, Generators, Mark, Name, Negative, Numeral, Operand, OrderWord, PerhapsName, Power, QuestionWord, Summands, Variables, a_coordinate, a_term, an_expression, IsOptional, coordinates_optional, denominator_optional, factors_optional, generators_optional, left_none, minus_step, negative_optional, neither_step, none_left, on_sign, others_end, plus_step, power_optional, run, run_behind, step, still_wanted, variables_optional, wants_of_ask, wants_of_keyword}
 
 -- a line was read from the state s0 on, where this was wanted first
 module _ (s0 : State) (first : List Want) where
