@@ -135,7 +135,7 @@ module _ {F : Field} (L : IsField F) (meaning : List ℕ → Meaning) where
     abbrev TooLarge : List Token → Type 0
     TooLarge us = V.Cause kinds.Large us
 
-    -- What is read behind an opening parenthesis.
+    -- What is read after an opening parenthesis.
     abbrev Inside : ℕ → Type 0
     Inside d = (ts : List Token) (u : State) (H : SoFar s0 V ts u) → IsNarrow H.reached.last.token → ((us : List Token) → GoesOnFactor d (Sign opening ∷ us) → V.Goes (ts ++ us))
         → ((us : List Token) → IsLargeAtom F meaning d (Sign opening ∷ us) → TooLarge (ts ++ us)) → Reading s0 V fault_of (λ f us. Atom d f (Sign opening ∷ us)) ts (text.parenthesised F meaning d u)
@@ -278,7 +278,7 @@ module _ {F : Field} (L : IsField F) (meaning : List ℕ → Meaning) where
           behind_ends : (sgn : ℕ) (g : Polynomial) {ws : List Token} → Behind sgn g ws → EndsNarrow ws
           behind_ends sgn g k = subst EndsNarrow (sym k.1) (narrow_behind us (Sign sgn ∷ k.0) (narrow_behind (Sign sgn ∷ []) k.0 (term_narrow k.2.0)))
 
-          -- the term behind a sign
+          -- the term after a sign
           behind_sign : (sgn : ℕ) (v : State) → after_sign sgn t ≡ Some v → ((vs : List Token) → GoesOnTerm d vs → V.Goes (ts ++ (us ++ Sign sgn ∷ vs)))
               → ((vs : List Token) → IsLargeTerm F meaning d vs → IsLargeExpression F meaning d (us ++ Sign sgn ∷ vs)) → Reading s0 V fault_of (Behind sgn) ts (text.term_at F meaning (text.parenthesised F meaning d) v)
           behind_sign sgn v is goes larger =

@@ -22,7 +22,7 @@ use Rattle.fj_script.specs.Numbers as numbers
 use Rattle.fj_script.specs.Question as question
 use Rattle.fj_script.specs.Question.{Target}
 use Rattle.fj_grammar.specs.Large.{HasLarge}
-use Rattle.fj_grammar.specs.Rank.{AreTooMany, HaveWrongArity}
+use Rattle.fj_grammar.specs.Many.{AreTooMany, HaveWrongArity}
 use Rattle.fj_grammar.specs.Wrong as wrong
 use Rattle.fj_grammar.specs.Wrong.{IsNameIn, IsWrong}
 use Rattle.fj_script.specs.Session.{Session, Terms, Value, Poly, ask, is_nonconstant, kind}
@@ -129,7 +129,7 @@ module _ (s0 : State) (V : Sayings) where
       (λ n us u e Hu. reading_if s0 V (λ e. e) (eqb n 0 || ltb 65536 (p ^ n)) _ _ (λ _. stuck (late s0 V Hu (numbers_at s0 V kinds.Range Hu e.0 k (V.narrow k.0 ws n e.1), number_narrow s0 V ws Hu e.0 e.1)))
       (λ f. let both = neither (eqb n 0) (ltb 65536 (p ^ n)) f in read us (Number n, e.0, (tt, refl, record { above_zero = not_zero n both.0; low = ltb-false 65536 (p ^ n) both.1 })) Hu))
 
-  -- the words that are wrong behind a session
+  -- the words that are wrong after a session
   pub record KnowsWords (S : Session) : Type 0 where
     pub unknown : (ts : List Token) (w : List ℕ) → (IsNameIn S w → ⊥) → V.Wrong ts kinds.Unknown (Word w)
     pub other : (ts : List Token) (w : List ℕ) → IsNameIn S w → V.Wrong ts kinds.Kind (Word w)

@@ -24,7 +24,7 @@ use Rattle.fj_grammar.specs.Grammar as grammar
 use Rattle.fj_grammar.specs.Grammar.{AreListed, AreStatements, IsQuestion, IsRing, IsSession, IsStatement, IsVariable, tokens_of}
 use Rattle.fj_script.specs.Items.{at_end, comma, number, word_of}
 use Rattle.fj_script.specs.LineFault.{◌>>=◌, fault_at}
-use Rattle.fj_grammar.specs.Rank as rank
+use Rattle.fj_grammar.specs.Many as rank
 use Rattle.fj_grammar.specs.Wrong as wrong
 use Rattle.fj_grammar.specs.Wrong.{IsWrong}
 use Rattle.fj_grammar.proofs.NamesOf.{found_among}
@@ -77,7 +77,7 @@ module _ (s0 : State) where
   ring_whole : (p : ℕ) (vs : List (List ℕ)) (us : List Token) → Contains primes p → Variables vs us → CanGoOn None (Word (codes "ring") ∷ Number p ∷ us)
   ring_whole p vs us known l = ([], new_session p vs, subst (λ ws. IsRing (Word (codes "ring") ∷ Number p ∷ ws) (new_session p vs)) (sym (append-nil us)) (grammar.ring known l.0 l.1 l.2))
 
-  -- behind a comma, with another variable
+  -- after a comma, with another variable
   variable_next : (p : ℕ) (vs : List (List ℕ)) (us : List Token) → Contains primes p → Variables vs us → length vs < 7 → CanGoOnWith None (Word (codes "ring") ∷ Number p ∷ (us ++ Sign comma ∷ [])) (Word (other_word vs))
   variable_next p vs us known l few =
       let all = variables_more vs us (other_word vs) l few (other_word-is vs) in (
@@ -237,17 +237,21 @@ nothing_stands : (before : Option Session) → IsUsual before → MayStand befor
 nothing_stands None h = inl (Word (codes "ring") ∷ Number 2 ∷ Word (other_word []) ∷ [], _, grammar.ring (some_prime (record { left = []; start = 0; end = 0 })) (grammar.last grammar.variable) (omega arith) (λ i j d less inside. absurd (omega (arith, less, inside))))
 nothing_stands (Some S) h = inl (bare S, bare_alike S _, Word (codes "order") ∷ Word (codes "lex") ∷ [], _, grammar.lex)
 
+-- another statement's word, where there is no ring yet
+without_ring : (s0 : State) (w : List ℕ) (t : State) → SoFar s0 (behind_lines None) (Word w ∷ []) t → wrong.BeginsLater w → Stuck s0 (behind_lines None) (fault_at kinds.NoRing t)
+without_ring s0 w t H other = late s0 (behind_lines None) H (word_first s0 (behind_lines None) kinds.NoRing [] (Word w ∷ []) [] w H refl (wrong.no_ring other))
+
 statement_of_stopped : (s0 : State) (before : Option Session) → IsUsual before → (k : Option Keyword) (w : List ℕ) → statements.keyword_of w ≡ k → (t : State) → SoFar s0 (behind_lines before) (Word w ∷ []) t
     → IsStopped s0 (behind_lines before) (statements.statement_of before k t)
 unfolding statements.first statements.later keyword_word
 statement_of_stopped s0 None h None w e t H = late s0 (behind_lines None) H tt
 statement_of_stopped s0 None h (Some keywords.Ring) w e t H = ring_stopped s0 t (subst (λ v. SoFar s0 (behind_lines None) (Word v ∷ []) t) (keyword_is w keywords.Ring e) H)
-statement_of_stopped s0 None h (Some keywords.Order) w e t H = late s0 (behind_lines None) H tt
-statement_of_stopped s0 None h (Some keywords.Budget) w e t H = late s0 (behind_lines None) H tt
-statement_of_stopped s0 None h (Some keywords.Poly) w e t H = late s0 (behind_lines None) H tt
-statement_of_stopped s0 None h (Some keywords.Ideal) w e t H = late s0 (behind_lines None) H tt
-statement_of_stopped s0 None h (Some keywords.Point) w e t H = late s0 (behind_lines None) H tt
-statement_of_stopped s0 None h (Some keywords.Ask) w e t H = late s0 (behind_lines None) H tt
+statement_of_stopped s0 None h (Some keywords.Order) w e t H = without_ring s0 w t H (inl (keyword_is w keywords.Order e))
+statement_of_stopped s0 None h (Some keywords.Budget) w e t H = without_ring s0 w t H (inr (inl (keyword_is w keywords.Budget e)))
+statement_of_stopped s0 None h (Some keywords.Poly) w e t H = without_ring s0 w t H (inr (inr (inl (keyword_is w keywords.Poly e))))
+statement_of_stopped s0 None h (Some keywords.Ideal) w e t H = without_ring s0 w t H (inr (inr (inr (inl (keyword_is w keywords.Ideal e)))))
+statement_of_stopped s0 None h (Some keywords.Point) w e t H = without_ring s0 w t H (inr (inr (inr (inr (inl (keyword_is w keywords.Point e))))))
+statement_of_stopped s0 None h (Some keywords.Ask) w e t H = without_ring s0 w t H (inr (inr (inr (inr (inr (keyword_is w keywords.Ask e))))))
 statement_of_stopped s0 (Some S) h None w e t H = late s0 (behind_lines (Some S)) H tt
 statement_of_stopped s0 (Some S) h (Some k) w e t H = later_stopped s0 S h.0 h.1 k t (subst (λ v. SoFar s0 (behind_lines (Some S)) (Word v ∷ []) t) (keyword_is w k e) H)
 

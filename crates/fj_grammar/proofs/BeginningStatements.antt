@@ -31,8 +31,8 @@ use Rattle.fj_script.specs.LineFault.{Answer, ◌>>=◌, fault_at, fault_of, not
 use Rattle.fj_script.specs.Names as names
 use Rattle.fj_grammar.specs.Large as large
 use Rattle.fj_grammar.specs.Large.{HasLarge, IsLargeIn}
-use Rattle.fj_grammar.specs.Rank as rank
-use Rattle.fj_grammar.specs.Rank.{AreTooMany}
+use Rattle.fj_grammar.specs.Many as rank
+use Rattle.fj_grammar.specs.Many.{AreTooMany}
 use Rattle.fj_grammar.specs.Wrong as wrong
 use Rattle.fj_grammar.proofs.NamesOf.{name_of, other_meaning, unknown_meaning}
 use Rattle.fj_script.specs.Session.{Session, Terms, Ideal, Point, declare, terms_in}
@@ -53,7 +53,7 @@ listed_more {A} {Is} {us} {vs} {xs} {x} (grammar.more {ts = ts} {us = rest} {x =
     subst (λ ws. AreListed Is ws (y ∷ (ys ++ x ∷ []))) (sym (append_assoc ts (Sign comma ∷ rest) (Sign comma ∷ vs))) (grammar.more h (listed_more l k))
 
 module _ (s0 : State) (V : Sayings) where
-  -- A statement is read, or its fault stands behind tokens that can go on.
+  -- A statement is read, or its fault stands after tokens that can go on.
   abbrev pub IsStopped : {B : Type 0} → Result B LineFault → Type 0
   IsStopped (Ok x) = Unit {0}
   IsStopped (Err f) = Stuck s0 V f
@@ -358,7 +358,7 @@ module _ (s0 : State) (S : Session) (known : Contains primes S.prime) (some_vari
       (λ n us w h Hw. read us (subst (λ vs. IsCoordinate S.prime vs ((S.prime - n % S.prime) % S.prime)) (sym h.0) (grammar.negative h.1)) Hw))
       (then_reading s0 (behind_lines (Some S)) (λ e. e) _ (narrow_reading s0 (behind_lines (Some S)) ws t H.reached here number) (λ n us w h Hw. read us (subst (λ vs. IsCoordinate S.prime vs (n % S.prime)) (sym h.0) (grammar.number h.1)) Hw))
 
-  -- with zeros behind them there is a coordinate for each variable
+  -- with zeros after them there is a coordinate for each variable
   fill : (k : ℕ) (cs : List ℕ) (us : List Token) → AreListed (IsCoordinate S.prime) us cs → length cs + k ≡ length S.variables → (rest : List Token) × (ds : List ℕ) × AreListed (IsCoordinate S.prime) (us ++ rest) ds × (length ds ≡ length S.variables)
   fill zero cs us l e = ([], cs, subst (λ ws. AreListed (IsCoordinate S.prime) ws cs) (sym (append-nil us)) l, omega arith)
   fill (suc k) cs us l e =

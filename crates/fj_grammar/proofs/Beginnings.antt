@@ -65,8 +65,8 @@ unexpected_blames t = by t.left
     by (u ∷ us) = λ e. blame_is u.token e
 
 -- What may be said of a line: that there is a ring before it. And of tokens: that they can go on, that they can go on with a
--- token, what causes a fault of this kind at the last one, and that the token behind them is wrong in this way. Of numbers in
--- the lines behind the ring's it is known when they are.
+-- token, what causes a fault of this kind at the last one, and that the token after them is wrong in this way. Of numbers in
+-- the lines after the ring's it is known when they are.
 pub record Sayings : Type 1 where
   pub HasRing : Type 0
   pub Goes : List Token → Type 0
@@ -136,7 +136,7 @@ module _ (s0 : State) (V : Sayings) where
   pub sound : (ts : List Token) (tok : Token) {t : State} → IsSound tok → Took (ts ++ tok ∷ []) t → SoFar (ts ++ tok ∷ []) t
   sound ts tok is H = record { reached = H.reached; goes_on = H.goes_on; sound = subst IsSound (last_same ts (toks H.reached.init) tok H.reached.last.token H.reached.tokens) is }
 
-  -- Behind the ring's line tokens can go on with a number; and they can go on with a word.
+  -- After the ring's line tokens can go on with a number; and they can go on with a word.
   abbrev pub Numbers : List Token → Type 0
   Numbers ts = V.HasRing × (n : ℕ) × (V.Goes (ts ++ Number n ∷ []) ⊎ V.Next ts (Number n))
 
@@ -165,10 +165,10 @@ module _ (s0 : State) (V : Sayings) where
   Fits kinds.Kind ts us = Words ts × WrongWord kinds.Kind ts us
   Fits kinds.Constant ts us = Words ts × WrongWord kinds.Constant ts us
   Fits kinds.Many ts us = Caused kinds.Many ts us
-  Fits kinds.Long ts us = Unit {0}
-  Fits kinds.Byte ts us = Unit {0}
+  Fits kinds.Long ts us = ⊥
+  Fits kinds.Byte ts us = (vs : List Token) × (us ≡ BadByte ∷ vs)
   Fits kinds.Syntax ts us = Unit {0}
-  Fits kinds.NoRing ts us = Unit {0}
+  Fits kinds.NoRing ts us = WrongWord kinds.NoRing ts us
   Fits kinds.Large ts us = BeginsNarrow us × Caused kinds.Large ts us
   Fits kinds.Arity ts us = Caused kinds.Arity ts us
 
@@ -182,13 +182,13 @@ module _ (s0 : State) (V : Sayings) where
     pub fits : Fits f.kind (toks before) (toks rest)
     pub blames : Blames f.kind rest
 
-  blame_fits : (tok : Token) (ts us : List Token) → Fits (kind_of (blame tok)) ts us
+  blame_fits : (tok : Token) (ts us : List Token) → Fits (kind_of (blame tok)) ts (tok ∷ us)
   blame_fits (Word w) ts us = tt
   blame_fits (Number n) ts us = tt
   blame_fits (Sign b) ts us = tt
-  blame_fits BadByte ts us = tt
+  blame_fits BadByte ts us = (us, refl)
 
-  -- What was read behind these tokens, or such a fault.
+  -- What was read after these tokens, or such a fault.
   pub data Reading {E A : Type 0} (fault : E → LineFault) (Q : A → List Token → Type 0) (ts : List Token) : Result (A × State) E → Type 0 where
     read : {x : A} {u : State} (us : List Token) → Q x us → SoFar (ts ++ us) u → Reading fault Q ts (Ok (x, u))
     stuck : {e : E} → Stuck (fault e) → Reading fault Q ts (Err e)
@@ -205,7 +205,7 @@ module _ (s0 : State) (V : Sayings) where
     all = H.reached.all;
     at = H.reached.start;
     goes_on = H.goes_on;
-    fits = blame_fits tok (toks H.reached.init) (H.reached.last.token ∷ toks t.left);
+    fits = subst (λ u. Fits (kind_of (blame tok)) (toks H.reached.init) (u ∷ toks t.left)) (last_same ts (toks H.reached.init) tok H.reached.last.token H.reached.tokens) (blame_fits tok (toks H.reached.init) (toks t.left));
     blames = λ e. blame_is tok (last_same ts (toks H.reached.init) tok H.reached.last.token H.reached.tokens ∙ e);
   }
 
@@ -244,9 +244,9 @@ module _ (s0 : State) (V : Sayings) where
     where
       by : (us : List Placed) → Fits (fault_of (unexpected (record { left = us; start = t.start; end = t.end }))).kind ts (toks us)
       by [] = tt
-      by (u ∷ us) = blame_fits u.token ts (toks (u ∷ us))
+      by (u ∷ us) = blame_fits u.token ts (toks us)
 
-  -- a fault at the next token, or behind the last one
+  -- a fault at the next token, or after the last one
   pub wrong_next : {ts : List Token} {t : State} → Reached s0 ts t → V.Goes ts → Stuck (fault_of (unexpected t))
   unfolding unexpected
   wrong_next {ts} {t} H v = record {
@@ -276,7 +276,7 @@ module _ (s0 : State) (V : Sayings) where
       sound ws (Sign b) tt (record { reached = K; goes_on = goes })
 
   module _ {E : Type 0} (fault : E → LineFault) where
-    -- what was read behind more tokens
+    -- what was read after more tokens
     pub behind : {A : Type 0} {Q R : A → List Token → Type 0} (ts us : List Token) (r : Result (A × State) E) → Reading fault Q (ts ++ us) r → ((x : A) (vs : List Token) → Q x vs → R x (us ++ vs)) → Reading fault R ts r
     behind ts us r (read vs h H) f = read (us ++ vs) (f _ vs h) (regrouped ts us vs H)
     behind ts us r (stuck H) f = stuck H

@@ -5,14 +5,14 @@ use Rattle.fj_text.specs.State.{end_of, next, state_at, state_from}
 use Rattle.fj_text.specs.Token.{Placed, tokens_from}
 use Rattle.fj_script.specs.declared.fault.Fault.{Fault}
 use Rattle.fj_script.specs.declared.fault.LineFault.{LineFault}
-use Rattle.fj_grammar.specs.FirstFault.{AreSameBefore, AreSameThrough, HasStatements, StandsBehind, line_at, tokens_before, tokens_through}
+use Rattle.fj_grammar.specs.FirstFault.{AreSameBefore, AreSameThrough, HasStatements, OthersFailAtFirst, StandsBehind, line_at, tokens_before, tokens_through}
 use Rattle.fj_grammar.specs.Grammar.{tokens_of}
 use Rattle.fj_script.specs.LineFault.{◌>>=◌}
 use Rattle.fj_script.specs.Script.{from_line, in_line, lines, script, with_ring}
 use Rattle.fj_script.specs.Session.{Session}
 use Rattle.fj_script.specs.Statement.{line}
 use Rattle.fj_grammar.proofs.GrammarComplete.{line_skipped}
-use Rattle.fj_script.proofs.Scripts.{script_of_lines}
+use Rattle.fj_script.proofs.Scripts.{long_script, script_of, script_of_lines}
 use Rattle.fj_grammar.proofs.Rising.{AreRising, Parted, edge_here, edge_passed, first_high, high_all, line_rises, parted, rising_all, rising_behind, starts_below}
 use Rattle.fj_grammar.proofs.TwoReadings.{line_along, line_from}
 use Rattle.fj_grammar.proofs.TwoRuns.{AlongStop, Any, AreBehindBoth, AreHigh, FirstHigh, IsEdge, Low, Stands, alike, faulty, fine, same, void, well}
@@ -216,6 +216,16 @@ lines_wrong bytes fault H e = by (from_line 1 None (lines bytes)) refl (sym (scr
     by (Err g) is h = let same_fault : g ≡ fault = cc in ap (λ f. Err f) same_fault
     by (Ok (Some S)) is h = absurd cc
     by (Ok None) is h = absurd (H.some ((no_tokens 1 None (lines bytes) is).1 (H.number - 1)))
+
+-- ---- the other sessions
+
+empty_lines : (number : ℕ) (ls : List (List ℕ)) → ((n : ℕ) → tokens_of (get_or ls n []) ≡ []) → from_line number None ls ≡ Ok None
+unfolding from_line
+empty_lines number [] h = refl
+empty_lines number (l ∷ ls) h = ap (λ r. in_line number r >>= λ after. from_line (number + 1) after ls) (line_skipped None l (h 0)) ∙ empty_lines (number + 1) ls (λ n. h (suc n))
+
+pub others_fail : OthersFailAtFirst
+others_fail bytes = (long_script bytes, λ short none. script_of bytes short (Ok None) (empty_lines 1 (lines bytes) (λ n. let same : n + 1 - 1 ≡ n = omega arith in ap (λ k. tokens_of (get_or (lines bytes) k [])) (sym same) ∙ none (n + 1))))
 
 later_fault : (number : ℕ) (before : Option Session) (ls : List (List ℕ)) (fault : Fault) → from_line number before ls ≡ Err fault → number ≤ fault.line
 later_fault number before ls fault e = let w = first_wrong number before ls fault e in let at : fault.line ≡ number + w.count = ap (λ f. f.line) w.is in omega (arith, at)

@@ -173,7 +173,7 @@ module _ (S : Session) (H : IsSane S) where
 
   -- ---- questions
 
-  -- Tokens behind the word of a question are its arguments.
+  -- Tokens after the word of a question are its arguments.
   abbrev IsAsked : Ask → List Token → Question → Type 0
   IsAsked a ts q = (s : State) → tokens_left s ≡ ts → IsRead (question.arguments a S s) q []
 

@@ -91,7 +91,7 @@ end_takes P x s h = on_next P s (λ _. Err (not_here s)) (Ok x) (λ tok u e. tt)
 abbrev pub Takes : {A : Type 0} → (List Token → A → Type 0) → State → A × State → Type 0
 Takes Is s r = (ts : List Token) × (tokens_left s ≡ ts ++ tokens_left r.1) × Is ts r.0
 
--- Items behind commas.
+-- Items after commas.
 data AreBehindCommas {A : Type 0} (Is : List Token → A → Type 0) : List Token → List A → Type 0 where
   no_more : AreBehindCommas Is [] []
   behind : {ts : List Token} {xs : List A} → AreListed Is ts xs → AreBehindCommas Is (Sign comma ∷ ts) xs
@@ -217,7 +217,7 @@ behind_comma ts = (λ e. absurd (omega arith), λ e. absurd (omega arith), λ e.
 pub behind_closing : (ts : List Token) → AreBehind (Sign closing ∷ ts)
 behind_closing ts = (λ e. absurd (omega arith), λ e. absurd (omega arith), λ e. absurd (omega arith), λ e. absurd (omega arith))
 
--- A list is read where each of its items is, behind those before it.
+-- A list is read where each of its items is, after those before it.
 module _ {A : Type 0} (Is : List Token → A → Type 0) (item : List A → State → Answer A) (whole : List A)
     (each : (ys : List A) (x : A) (zs : List A) → whole ≡ ys ++ x ∷ zs → (ts rest : List Token) (s : State) → Is ts x → AreBehind rest → tokens_left s ≡ ts ++ rest → IsRead (item ys s) x rest)
     (rest : List Token) (last : AreBehind rest) (ends : NotFirst comma rest) where

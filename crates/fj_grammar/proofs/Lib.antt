@@ -17,4 +17,9 @@ pub mod BeginningLines
 pub mod BeginningQuestions
 pub mod BeginningStatements
 pub mod BeginningSessions
+pub mod Wanted
+pub mod WantedReadings
+pub mod WantedGrammar
+pub mod WantedNames
+pub mod Misplaced
 pub mod Ranked

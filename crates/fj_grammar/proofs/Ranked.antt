@@ -1,5 +1,6 @@
 -- The kind of a fault is the highest at its place.
 use Rattle.std.proofs.Common.{◌≡◌, ◌≢◌, ℕ, zero, ◌+◌, ◌-◌, ◌^◌, ◌<◌, ◌≤◌, List, [], ◌∷◌, ◌++◌, length, drop, get_or, All, Contains, Option, Some, None, Ok, Err, codes, refl, sym, ap, ◌∙◌, subst, arith, append_assoc, inl, inr, ◌⊎◌}
+use Rattle.std.specs.Option.{is_some}
 use Rattle.std.proofs.lemmas.List.{append-nil, length-map}
 use Rattle.std.proofs.lemmas.List.Elements.{Contains-append_left, Contains-append_right}
 use Rattle.fj_text.specs.State.{State, after, end_of, next}
@@ -18,9 +19,12 @@ use Rattle.fj_grammar.specs.FirstFault.{line_at, tokens_before}
 use Rattle.fj_grammar.specs.Grammar as grammar
 use Rattle.fj_grammar.specs.Grammar.{AreListed, HasTerms, IsRing, IsSession, IsStatement, tokens_of}
 use Rattle.fj_grammar.specs.Large.{HasLarge}
-use Rattle.fj_grammar.specs.Rank as rank
-use Rattle.fj_grammar.specs.Rank.{AreTooMany, HasCause, HaveWrongArity, IsOfNumber, IsOfWord, KindIsHighest, StandsAt, lines_to, tokens_to}
-use Rattle.fj_grammar.specs.Wrong.{IsWrong}
+use Rattle.fj_grammar.specs.Many as rank
+use Rattle.fj_grammar.specs.Many.{AreTooMany, HaveWrongArity}
+use Rattle.fj_grammar.specs.Owed.{IsLineEnd, IsMisplaced, IsUnfinished}
+use Rattle.fj_grammar.specs.Rank.{HasCause, IsOfNumber, IsOfWord, KindIsHighest, StandsAt, lines_to, tokens_to}
+use Rattle.fj_grammar.specs.Wrong as wrongs
+use Rattle.fj_grammar.specs.Wrong.{BeginsLater, IsWrong}
 use Rattle.fj_grammar.proofs.BeginningLines.{Causes, MayFollow, MayStand, behind_lines}
 use Rattle.fj_grammar.proofs.BeginningSessions.{before_is, made_before, stuck_at}
 use Rattle.fj_grammar.proofs.Beginnings as Said
@@ -29,6 +33,9 @@ use Rattle.fj_grammar.proofs.ExpressionEnds.{EndsNarrow, IsNarrow, expression_na
 use Rattle.fj_grammar.proofs.FirstFault.{FirstWrong, first_wrong, line_is, lines_wrong}
 use Rattle.fj_grammar.proofs.Rising.{AreRising, line_rises, starts_below, token_is}
 use Rattle.fj_grammar.proofs.TwoReadings.{line_from}
+use Rattle.fj_grammar.proofs.Misplaced.{misplaced, unfinished}
+use Rattle.fj_grammar.proofs.Wanted.{Beginning}
+use Rattle.fj_grammar.proofs.WantedReadings.{Blamed, Owed, at_token, ended, line_owed}
 
 -- ---- a later line of the ring
 
@@ -39,7 +46,7 @@ ring_again S t ts f e = by t.token e
     by : (tok : Token) → tok ≡ Word (codes "ring") → (statements.statement (Some S) tok (after t ts) >>= λ T. Ok (Some T)) ≡ Err f → f.kind ≡ kinds.Syntax
     by tok e = subst (λ tok. (statements.statement (Some S) tok (after t ts) >>= λ T. Ok (Some T)) ≡ Err f → f.kind ≡ kinds.Syntax) (sym e) (λ h. let same : record { kind = kinds.Syntax; column = t.start } ≡ f = cc in sym (ap (λ g. g.kind) same))
 
--- A line that begins with `ring`, where another kind than Syntax is told, is the ring's.
+-- A line that begins with `ring`, where another kind than Syntax is reported, is the ring's.
 ring_first : (before : Option Session) (l : List ℕ) (f : LineFault) (us : List Token) → tokens_of l ≡ Word (codes "ring") ∷ us → statements.line before l ≡ Err f → (f.kind ≡ kinds.Syntax → ⊥) → (behind_lines before).HasRing → ⊥
 ring_first None l f us begins wrong other ring = ring
 ring_first (Some S) l f us begins wrong other ring = by (tokens_from zero zero l) begins (sym (line_is (Some S) l) ∙ wrong)
@@ -124,11 +131,29 @@ many_narrow (rank.generators {name} {ts = us} new l full) n ts e = absurd (let s
 many_narrow (rank.terms {name} {ts = us} new h many) n ts e = narrow_end (Word (codes "poly") ∷ Word name ∷ Sign equals ∷ []) (terms_narrow h) n ts e
 many_narrow (rank.generator_terms {name} {ts = us} new l few many) n ts e = narrow_end (Word (codes "ideal") ∷ Word name ∷ Sign equals ∷ Sign opening ∷ []) (listed_narrow l) n ts e
 
+-- ---- the end of a line
+
+last_token : (ts : List Placed) → (ts ≡ []) ⊎ ((us : List Placed) × (u : Placed) × (ts ≡ us ++ u ∷ []))
+last_token [] = inl refl
+last_token (t ∷ ts) = by (last_token ts)
+  where
+    by : (ts ≡ []) ⊎ ((us : List Placed) × (u : Placed) × (ts ≡ us ++ u ∷ [])) → (t ∷ ts ≡ []) ⊎ ((us : List Placed) × (u : Placed) × (t ∷ ts ≡ us ++ u ∷ []))
+    by (inl e) = inr ([], t, ap (λ us. t ∷ us) e)
+    by (inr (us, u, e)) = inr (t ∷ us, u, ap (λ us. t ∷ us) e)
+
+nothing_wrong : (before : Option Session) (f : LineFault) → line_from before (record { left = []; start = 0; end = 0 }) ≡ Err f → ⊥
+unfolding next
+nothing_wrong before f e = cc
+
 -- ---- a session
 
 pub kind_highest : KindIsHighest
 kind_highest bytes place H e = record {
   byte_over_others = λ stands. bad_there stands K.rest K.all K.at K.blames;
+  byte_at_bad_byte = λ is. let x = fit kinds.Byte is in first_stands BadByte x.0 x.1 K.rest K.all K.at refl;
+  not_long = λ is. fit kinds.Long is;
+  no_ring_at_first = λ is. let x = fit kinds.NoRing is in without_ring x.0 x.1 x.2 w.session (toks K.before) x.3 made before_it;
+  syntax_is_owed = λ is. (w.session, made, owed (subst (λ k. Blamed s0 (Beginning (is_some w.session) ∷ []) k w.found.column) (kind_same ∙ is) (line_owed w.session all w.found (sym (line_is w.session l) ∙ w.wrong))));
   syntax_over_number = λ is. let x = number_follows s0 w.session (toks K.before) (toks K.rest) place.kind fits is in let at = x.1 in (at.0, x.0.0, (first_stands (Number at.0) at.1 at.2 K.rest K.all K.at refl, w.session, made, subst (λ ts. IsWrong w.session ts place.kind (Number at.0)) (sym before_it) at.3, subst (λ ts. MayFollow w.session ts (Number x.0.0)) (sym before_it) x.0.1));
   syntax_over_word = λ is. let x = word_follows s0 w.session (toks K.before) (toks K.rest) place.kind fits is in let at = x.1 in (at.0, x.0.0, (first_stands (Word at.0) at.1 at.2 K.rest K.all K.at refl, w.session, made, subst (λ ts. IsWrong w.session ts place.kind (Word at.0)) (sym before_it) at.3, subst (λ ts. MayFollow w.session ts (Word x.0.0)) (sym before_it) x.0.1));
   syntax_over_large = λ is. let x = fit kinds.Large is in cause_there HasLarge kinds.Large (λ S ts h. h) x.1;
@@ -226,3 +251,31 @@ kind_highest bytes place H e = record {
     cause_there Is k is (u, us, e, cause) =
         let x = cause_of Is k is (lines_to place bytes) w.session (toks K.before ++ u ∷ []) made cause in
         (u, first_stands u us e K.rest K.all K.at refl, x.0, x.1, subst (λ ts. Is x.0 (ts ++ u ∷ [])) (sym before_it) x.2)
+
+    without_ring : (v : List ℕ) (us : List Token) → toks K.rest ≡ Word v ∷ us → (before : Option Session) (ts : List Token) → IsWrong before ts kinds.NoRing (Word v) → MakeSession (lines_to place bytes) before → tokens_to place bytes ≡ ts
+        → (v : List ℕ) × StandsAt place bytes (Word v) × BeginsLater v × (tokens_to place bytes ≡ []) × MakeSession (lines_to place bytes) None
+    without_ring v us e None [] (wrongs.no_ring other) nothing same = (v, first_stands (Word v) us e K.rest K.all K.at refl, other, same, nothing)
+    without_ring v us e None (t ∷ ts) is nothing same = elim is [ ]
+    without_ring v us e (Some S) ts is nothing same = elim is [ ]
+
+    line_tokens : tokens_from zero zero (line_at place.line bytes) ≡ all
+    line_tokens = ap (tokens_from zero zero) line_same
+
+    Misfit : Type 0
+    Misfit = (IsLineEnd place bytes × IsUnfinished w.session (tokens_to place bytes)) ⊎ ((t : Token) × StandsAt place bytes t × IsMisplaced w.session (tokens_to place bytes) t)
+
+    tokens_read : (read rest : List Placed) → all ≡ read ++ rest → Said.StandsAt w.found.column rest (end_of read 0) → tokens_to place bytes ≡ toks read
+    tokens_read read rest whole at = ap toks (ap (λ n. tokens_before n (line_at place.line bytes)) column_is ∙ ap (tokens_before (w.found.column + 1)) line_same ∙ before_is l w.found.column read rest whole at)
+
+    at_end : (ts : List Placed) (u : Placed) → all ≡ ts ++ u ∷ [] → w.found.column ≡ end_of all 0 → IsLineEnd place bytes
+    at_end ts u is at = let column = at ∙ ap (λ us. end_of us 0) is ∙ Said.end_last ts u 0 in (ts, u, line_tokens ∙ is, omega (arith, column, column_is))
+
+    owed : Owed s0 (Beginning (is_some w.session) ∷ []) w.found.column → Misfit
+    owed (ended wants at reached more_wanted) = by (last_token all)
+      where
+        by : (all ≡ []) ⊎ ((ts : List Placed) × (u : Placed) × (all ≡ ts ++ u ∷ [])) → Misfit
+        by (inl nothing) = absurd (nothing_wrong w.session w.found (sym (ap (λ ts. line_from w.session (record { left = ts; start = 0; end = 0 })) nothing) ∙ sym (line_is w.session l) ∙ w.wrong))
+        by (inr (ts, u, is)) = inl (at_end ts u is at, subst (IsUnfinished w.session) (sym (tokens_read all [] (sym (append-nil all)) at)) (unfinished w.session (toks all) wants reached more_wanted))
+    owed (at_token read p rest wants whole at reached refused) =
+        let inside : Contains all p = subst (λ ts. Contains ts p) (sym whole) (Contains-append_right read (p ∷ rest) p (0, omega arith, refl)) in
+        inr (p.token, (p, subst (λ ts. Contains ts p) (sym line_tokens) inside, omega (arith, at, column_is), refl), subst (λ ts. IsMisplaced w.session ts p.token) (sym (tokens_read read (p ∷ rest) whole at)) (misplaced w.session (toks read) p.token wants reached refused))

@@ -1,4 +1,4 @@
--- The tokens of a line stand one behind the other.
+-- The tokens of a line stand one after the other.
 use Rattle.std.proofs.Common.{◌≡◌, ℕ, zero, suc, ◌+◌, ◌-◌, ◌<◌, ◌≤◌, Bool, true, false, cond, ltb, List, [], ◌∷◌, ◌++◌, All, Contains, Option, Some, None, IfSome, refl, sym, ap, ◌∙◌, subst, arith, inl, inr}
 use Rattle.std.specs.Char.{is_ascii_digit}
 use Rattle.std.specs.List.{filter, prefix_len}
@@ -11,7 +11,7 @@ use Rattle.fj_text.specs.Word.{is_word_byte, is_word_start}
 use Rattle.fj_text.proofs.Words.{start_is_byte}
 use Rattle.fj_grammar.proofs.TwoRuns.{AreHigh, FirstHigh, IsEdge, IsEdgeBehind}
 
--- Tokens from a column on, each behind the one before it.
+-- Tokens from a column on, each after the one before it.
 abbrev pub AreRising : ℕ → List Placed → Type 0
 AreRising n [] = Unit {0}
 AreRising n (t ∷ ts) = (n ≤ t.start) × (t.start < t.end) × AreRising t.end ts
@@ -52,17 +52,17 @@ tokens_rise zero column (b ∷ bytes) =
 pub line_rises : (line : List ℕ) → AreRising 0 (tokens_from zero zero line)
 line_rises line = let none : 0 + 0 ≡ 0 = refl in subst (λ n. AreRising n (tokens_from zero zero line)) none (tokens_rise zero zero line)
 
--- All of these stand behind a column.
+-- All of these stand after a column.
 pub rising_all : (n : ℕ) (ts : List Placed) → AreRising n ts → All (λ t. (n ≤ t.start) × (n < t.end)) ts
 rising_all n [] h = All-nil _
 rising_all n (t ∷ ts) h = All-cons (λ t. (n ≤ t.start) × (n < t.end)) t ts (h.0, omega (arith, h.0, h.1)) (λ i d inside. let later = rising_all t.end ts h.2 i d inside in (omega (arith, h.0, h.1, later.0), omega (arith, h.0, h.1, later.1)))
 
--- What follows tokens rises behind them.
+-- What follows tokens rises after them.
 pub rising_behind : (n : ℕ) (ts us : List Placed) → AreRising n (ts ++ us) → AreRising (end_of ts n) us
 rising_behind n [] us h = h
 rising_behind n (t ∷ ts) us h = rising_behind t.end ts us h.2
 
--- The end of the last one is behind the start of each, and behind the column that they rise from.
+-- The end of the last one is after the start of each, and after the column that they rise from.
 pub end_above : (n : ℕ) (ts us : List Placed) → AreRising n (ts ++ us) → n ≤ end_of ts n
 end_above n [] us h = omega arith
 end_above n (t ∷ ts) us h = let rest = end_above t.end ts us h.2 in omega (arith, h.0, h.1, rest)
@@ -82,7 +82,7 @@ none_before column n (t ∷ ts) h rises =
     let no : starts_before column t ≡ false = le-ltb (t.start + 1) column (omega (arith, rises.0)) in
     ap (λ c. cond c (t ∷ filter (starts_before column) ts) (filter (starts_before column) ts)) no ∙ none_before column t.end ts (omega (arith, rises.0, rises.1)) rises.2
 
--- Tokens, parted at a column.
+-- Tokens, separated at a column.
 pub record Parted (column : ℕ) (ts : List Placed) : Type 0 where
   pub rest : List Placed
   pub all : ts ≡ filter (starts_before column) ts ++ rest
@@ -112,7 +112,7 @@ parted column n (t ∷ ts) h = by (starts_before column t) refl (parted column t
           behind = All-cons (λ u. column ≤ u.start + 1) t ts from (λ i d inside. let later = rising_all t.end ts h.2 i d inside in omega (arith, h.1, later.0));
         }
 
--- ---- what is known behind a column
+-- ---- what is known after a column
 
 pub high_all : (M : Type 0) (b c : ℕ) (r q : List Placed) (n : ℕ) (ts : List Placed) → c < n → AreRising n ts → AreHigh M b c r q ts
 high_all M b c r q n ts h rises i d inside = let at = rising_all n ts rises i d inside in (omega (arith, at.0), omega (arith, at.1))
@@ -121,7 +121,7 @@ pub first_high : (M : Type 0) (b c : ℕ) (r q : List Placed) (n : ℕ) (ts : Li
 first_high M b c r q n [] rises h = tt
 first_high M b c r q n (t ∷ ts) rises h = let here = h 0 t (omega arith) in (omega (arith, rises.1, here), high_all M b c r q t.end ts (omega (arith, rises.1, here)) rises.2)
 
--- Tokens with an edge: M holds, or the last one stands behind c.
+-- Tokens with an edge: M holds, or the last one stands after c.
 pub edge_here : (M : Type 0) (b c : ℕ) (r q : List Placed) → M → (ts : List Placed) → IsEdge M b c r q ts
 edge_here M b c r q m [] = m
 edge_here M b c r q m (t ∷ ts) = behind t ts

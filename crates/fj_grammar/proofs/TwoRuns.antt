@@ -74,7 +74,7 @@ moved : {X : Type 0} (Z : X → X → Type 0) {u v w x : X} → u ≡ w → v �
 moved Z {u} {v} {w} {x} e h z = subst (λ a. Z a v) (sym e) (subst (λ a. Z w a) (sym h) z)
 
 -- Two lines that begin alike go on with the tokens r and q. Where M holds, faults of the other one are fine from b on, and
--- otherwise the tokens that are the same reach behind the column c.
+-- otherwise the tokens that are the same reach after the column c.
 module _ (M : Type 0) (b c : ℕ) (r q : List Placed) where
   abbrev pub Low : ℕ → Type 0
   Low n = b ≤ n
@@ -89,7 +89,7 @@ module _ (M : Type 0) (b c : ℕ) (r q : List Placed) where
   FirstHigh [] = Unit {0}
   FirstHigh (t ∷ ts) = (c < t.end) × AreHigh ts
 
-  -- What is known of the tokens behind.
+  -- What is known of the tokens that follow.
   pub record AreBehindBoth : Type 0 where
     pub one : FirstHigh r
     pub other : All (λ t. (b ≤ t.start) × (b ≤ t.end)) q
@@ -130,7 +130,7 @@ module _ (M : Type 0) (b c : ℕ) (r q : List Placed) where
     pub high : (s : State) → IsReady first High s → Stands place High Any (R s)
     pub along : (s t : State) → Agree s t → AlongStop place (R s) (R t)
 
-  -- ---- one rule behind another
+  -- ---- one rule after another
 
   module _ {E A B : Type 0} {place : E → ℕ} (k i : Bool) (R : State → Result (A × State) E) where
     pub then_rule : (j : Bool) (f : A × State → Result (B × State) E) → IsRule place k i R → ((x : A) → IsRule place i j (λ s. f (x, s))) → IsRule place k j (λ s. R s >>= f)
@@ -224,7 +224,7 @@ module _ (M : Type 0) (b c : ℕ) (r q : List Placed) where
   -- ---- tokens
 
   module _ (H : AreBehindBoth) where
-    -- behind the last token that is the same
+    -- after the last token that is the same
     pub edge_ahead : (start end : ℕ) → b ≤ end → IsAhead Low (record { left = q; start = start; end = end })
     edge_ahead start end h = record { end = h; left = H.other }
 
@@ -234,7 +234,7 @@ module _ (M : Type 0) (b c : ℕ) (r q : List Placed) where
     taken t [] end h (inl m) = inl (agree [] t.start t.end h m)
     taken t [] end h (inr x) = inr (record { ahead = record { end = x.1; left = x.2 }; start = x.0 })
 
-    -- behind c, where the first token of r was taken
+    -- after c, where the first token of r was taken
     first_high : (t : Placed) (ts : List Placed) → FirstHigh (t ∷ ts) → IsAhead High (after t ts)
     first_high t ts h = record { end = h.0; left = h.1 }
 
@@ -315,7 +315,7 @@ module _ (M : Type 0) (b c : ℕ) (r q : List Placed) where
           by true = elim (taken x ts end h edge) [ inl g ↦ both (after x (ts ++ r)) (after x (ts ++ q)) g | inr near ↦ void (high (after x (ts ++ r)) near) ]
           by false = others _ _ (agree (x ∷ ts) start end h edge)
 
-      -- Behind the sign a rule takes a token first.
+      -- After the sign a rule takes a token first.
       pub sign_or : (k j : Bool) (sgn : ℕ) (f D : State → Result (A × State) E) → IsRule place true j f → IsRule place k j D → IsRule place k j (λ s. option_map_or f (after_sign sgn s) (D s))
       sign_or k j sgn f D F K = record {
         low = λ s h. sign_cases (Near place Low) sgn f (D s) s (λ t ts e. F.low (after t ts) (first_of_left Low s t ts (ahead k h) e).ahead) (K.low s h);

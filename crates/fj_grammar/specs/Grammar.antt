@@ -81,7 +81,7 @@ pub data IsRatio : List Token → Fraction → Type 0 where
   whole : {m : ℕ} {t : Fraction} → IsExponent m 1 t → IsRatio (Number m ∷ []) t
   quotient : {m n : ℕ} {t : Fraction} → IsExponent m n t → IsRatio (Number m ∷ Sign slash ∷ Number n ∷ []) t
 
--- What stands behind `ask`. The name's kind decides whether a question is about an ideal or a point.
+-- What stands after `ask`. The name's kind decides whether a question is about an ideal or a point.
 pub data IsQuestion (S : Session) : List Token → Question → Type 0 where
   parts : {e f : ℕ} {F : List ℕ} → e ≤ 12 → NamesPolynomial S F f → IsQuestion S (Word (codes "parts") ∷ Number e ∷ Word F ∷ []) (questions.Parts e f)
   basis : {j : ℕ} {J : List ℕ} → NamesIdeal S J j → IsQuestion S (Word (codes "basis") ∷ Word J ∷ []) (questions.Basis j)
@@ -106,7 +106,7 @@ pub data IsQuestion (S : Session) : List Token → Question → Type 0 where
   split : {j : ℕ} {J : List ℕ} → NamesIdeal S J j → IsQuestion S (Word (codes "split") ∷ Word J ∷ []) (questions.Split j)
   compatible : {e u j : ℕ} {U J : List ℕ} → e ≤ 12 → NamesPolynomial S U u → NamesIdeal S J j → IsQuestion S (Word (codes "compatible") ∷ Number e ∷ Word U ∷ Word J ∷ []) (questions.Compatible e u j)
 
--- A statement behind the ring, and the session that it makes of the one before it.
+-- A statement after the ring, and the session that it makes of the one before it.
 pub data IsStatement (S : Session) : List Token → Session → Type 0 where
   lex : IsStatement S (Word (codes "order") ∷ Word (codes "lex") ∷ []) (record S { order = orders.Lex })
   grlex : IsStatement S (Word (codes "order") ∷ Word (codes "grlex") ∷ []) (record S { order = orders.Grlex })
@@ -120,7 +120,7 @@ pub data IsStatement (S : Session) : List Token → Session → Type 0 where
       → IsStatement S (Word (codes "point") ∷ Word name ∷ Sign equals ∷ Sign opening ∷ ts ++ Sign closing ∷ []) (declare S name (Point cs) 0)
   asked : {ts : List Token} {q : Question} → length S.asked < 4096 → IsQuestion S ts q → IsStatement S (Word (codes "ask") ∷ ts) (ask S q)
 
--- Lines behind the ring. A line without a token says nothing.
+-- Lines after the ring. A line without a token says nothing.
 pub data AreStatements : Session → List (List Token) → Session → Type 0 where
   none : {S : Session} → AreStatements S [] S
   nothing : {S T : Session} {ls : List (List Token)} → AreStatements S ls T → AreStatements S ([] ∷ ls) T

@@ -41,7 +41,7 @@ mutual
 abbrev pub IsLargeIn : Session → List Token → Type 0
 IsLargeIn S ts = IsLargeExpression (prime_field S.prime) (meaning_among S.variables) 64 ts
 
--- A declaration as far as something in it is too large: the expression of a polynomial, or a generator behind others.
+-- A declaration as far as something in it is too large: the expression of a polynomial, or a generator after others.
 pub data HasLarge (S : Session) : List Token → Type 0 where
   poly : {name : List ℕ} {ts : List Token} → IsNew S name → IsLargeIn S ts → HasLarge S (Word (codes "poly") ∷ Word name ∷ Sign equals ∷ ts)
   first_generator : {name : List ℕ} {ts : List Token} → IsNew S name → IsLargeIn S ts → HasLarge S (Word (codes "ideal") ∷ Word name ∷ Sign equals ∷ Sign opening ∷ ts)

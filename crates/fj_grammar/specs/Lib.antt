@@ -4,4 +4,6 @@ pub mod FirstFault
 pub mod Beginning
 pub mod Large
 pub mod Wrong
+pub mod Many
+pub mod Owed
 pub mod Rank

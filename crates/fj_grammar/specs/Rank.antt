@@ -1,6 +1,6 @@
--- The rank of kinds at the place of a fault: of each two that could stand at one place, the higher one is told. And its kind has
--- its cause.
-use Rattle.std.specs.Prelude.{◌≡◌, ◌≢◌, ℕ, zero, ◌+◌, ◌-◌, ◌^◌, ◌<◌, ◌≤◌, ◌⊎◌, List, [], ◌∷◌, ◌++◌, length, map, take, All, Contains, Option, Err, codes}
+-- The rank of kinds at the place of a fault: of two that could stand there the higher one is reported. And each kind has its cause
+-- at its place.
+use Rattle.std.specs.Prelude.{◌≡◌, ◌≢◌, ℕ, zero, ◌+◌, ◌-◌, ◌^◌, ◌<◌, ◌≤◌, ◌⊎◌, List, [], ◌∷◌, ◌++◌, length, map, take, All, Contains, Option, None, Err, codes}
 use Rattle.fj_text.specs.Token.{Token, Word, Number, Sign, BadByte, Placed, opening, closing, tokens_from}
 use Rattle.fj_script.specs.declared.fault.Fault.{Fault}
 use Rattle.fj_script.specs.declared.fault.FaultKind.{FaultKind}
@@ -12,7 +12,9 @@ use Rattle.fj_grammar.specs.Beginning.{CanGoOnWith, IsDoomedWith, MakeSession}
 use Rattle.fj_grammar.specs.FirstFault.{HasStatements, line_at, tokens_before}
 use Rattle.fj_grammar.specs.Grammar.{AreListed, HasTerms, IsCoordinate, IsNew, IsSession, tokens_of}
 use Rattle.fj_grammar.specs.Large.{HasLarge}
-use Rattle.fj_grammar.specs.Wrong.{IsWrong}
+use Rattle.fj_grammar.specs.Many.{AreTooMany, HaveWrongArity}
+use Rattle.fj_grammar.specs.Owed.{IsLineEnd, IsMisplaced, IsUnfinished}
+use Rattle.fj_grammar.specs.Wrong.{BeginsLater, IsWrong}
 
 -- This token stands at a place.
 abbrev pub StandsAt : Fault → List ℕ → Token → Type 0
@@ -29,47 +31,34 @@ tokens_to place bytes = map (λ t. t.token) (tokens_before place.column (line_at
 abbrev pub lines_to : Fault → List ℕ → List (List Token)
 lines_to place bytes = map tokens_of (take (place.line - 1) (lines bytes))
 
--- The first token stands at a place, and behind the session that the lines before make it is wrong in the way that is told. A
--- statement may have the second one there: the tokens before go on with it, or it comes behind one of the two beginnings that can't.
+-- The first token stands at a place, and after the session that the lines before make it is wrong in the way that is reported. A
+-- statement may have the second one there: the tokens before go on with it, or it comes after one of the two beginnings that can't.
 abbrev pub IsAt : Fault → List ℕ → Token → Token → Type 0
 IsAt place bytes t u =
     StandsAt place bytes t
     × (before : Option Session) × MakeSession (lines_to place bytes) before × IsWrong before (tokens_to place bytes) place.kind t × (CanGoOnWith before (tokens_to place bytes) u ⊎ IsDoomedWith (tokens_to place bytes) u)
 
--- The kinds that are told at a number, and those that are told at a word.
+-- The kinds that are reported at a number, and those that are reported at a word.
 abbrev pub IsOfNumber : FaultKind → Type 0
 IsOfNumber kind = (kind ≡ kinds.Prime) ⊎ (kind ≡ kinds.Wide) ⊎ (kind ≡ kinds.Range)
 
 abbrev pub IsOfWord : FaultKind → Type 0
 IsOfWord kind = (kind ≡ kinds.Vars) ⊎ (kind ≡ kinds.Taken) ⊎ (kind ≡ kinds.Unknown) ⊎ (kind ≡ kinds.Kind) ⊎ (kind ≡ kinds.Constant)
 
-abbrev pub Declares : List ℕ → Type 0
-Declares keyword = (keyword ≡ codes "poly") ⊎ (keyword ≡ codes "ideal") ⊎ (keyword ≡ codes "point")
-
--- Tokens up to one at which there are too many of something, in a line behind this session. No higher kind stands there: the
--- name is none of the session's, and each value that is formed in an expression is within its limits.
-pub data AreTooMany (S : Session) : List Token → Type 0 where
-  questions : 4096 ≤ length S.asked → AreTooMany S (Word (codes "ask") ∷ [])
-  names : {keyword name : List ℕ} → Declares keyword → All (λ v. v ≢ name) S.variables → All (λ v. v.0 ≢ name) S.values → 4096 ≤ length S.values → AreTooMany S (Word keyword ∷ Word name ∷ [])
-  generators : {name : List ℕ} {ts : List Token} {fs : List Terms} → IsNew S name → AreListed (HasTerms S) ts fs → length fs ≡ 64 → AreTooMany S (Word (codes "ideal") ∷ Word name ∷ Sign equals ∷ Sign opening ∷ ts ++ Sign comma ∷ [])
-  terms : {name : List ℕ} {ts : List Token} {f : Terms} → IsNew S name → HasTerms S ts f → 1000000 < S.terms + length f → AreTooMany S (Word (codes "poly") ∷ Word name ∷ Sign equals ∷ ts)
-  generator_terms : {name : List ℕ} {ts : List Token} {fs : List Terms} → IsNew S name → AreListed (HasTerms S) ts fs → length fs ≤ 64 → 1000000 < S.terms + terms_in fs
-      → AreTooMany S (Word (codes "ideal") ∷ Word name ∷ Sign equals ∷ Sign opening ∷ ts)
-
--- Tokens up to a comma behind a coordinate for each variable, or up to a parenthesis behind too few, in a line behind this session.
-pub data HaveWrongArity (S : Session) : List Token → Type 0 where
-  too_many : {name : List ℕ} {ts : List Token} {cs : List ℕ} → IsNew S name → AreListed (IsCoordinate S.prime) ts cs → length cs ≡ length S.variables
-      → HaveWrongArity S (Word (codes "point") ∷ Word name ∷ Sign equals ∷ Sign opening ∷ ts ++ Sign comma ∷ [])
-  too_few : {name : List ℕ} {ts : List Token} {cs : List ℕ} → IsNew S name → AreListed (IsCoordinate S.prime) ts cs → length cs < length S.variables
-      → HaveWrongArity S (Word (codes "point") ∷ Word name ∷ Sign equals ∷ Sign opening ∷ ts ++ Sign closing ∷ [])
-
--- A token stands at the place, and behind the session that the lines before make the tokens of the line through it are such tokens.
+-- A token stands at the place, and after the session that the lines before make the tokens of the line through it are such tokens.
 abbrev pub HasCause : (Session → List Token → Type 0) → Fault → List ℕ → Type 0
 HasCause Is place bytes = (t : Token) × StandsAt place bytes t × (S : Session) × IsSession (lines_to place bytes) S × Is S (tokens_to place bytes ++ t ∷ [])
 
--- Of two kinds that could stand at one place the lower one is told only where the higher one doesn't stand.
+-- Of two kinds that could stand at one place the lower one is reported only where the higher one doesn't stand.
 pub record IsHighest (bytes : List ℕ) (place : Fault) : Type 0 where
   pub byte_over_others : StandsAt place bytes BadByte → place.kind ≡ kinds.Byte
+  pub byte_at_bad_byte : place.kind ≡ kinds.Byte → StandsAt place bytes BadByte
+  pub not_long : place.kind ≡ kinds.Long → ⊥
+  -- NoRing is reported at the first token of the session, where it is another statement's word
+  pub no_ring_at_first : place.kind ≡ kinds.NoRing → (w : List ℕ) × StandsAt place bytes (Word w) × BeginsLater w × (tokens_to place bytes ≡ []) × MakeSession (lines_to place bytes) None
+  -- Syntax where the line ends and may not, or at a token that may not stand there and at which no other kind has its cause
+  pub syntax_is_owed : place.kind ≡ kinds.Syntax → (before : Option Session) × MakeSession (lines_to place bytes) before
+      × ((IsLineEnd place bytes × IsUnfinished before (tokens_to place bytes)) ⊎ ((t : Token) × StandsAt place bytes t × IsMisplaced before (tokens_to place bytes) t))
   -- a wrong number stands where a number may stand, and a wrong word where a word may
   pub syntax_over_number : IsOfNumber place.kind → (n m : ℕ) × IsAt place bytes (Number n) (Number m)
   pub syntax_over_word : IsOfWord place.kind → (v w : List ℕ) × IsAt place bytes (Word v) (Word w)

@@ -1,5 +1,5 @@
--- What is wrong with the number or the word at which a fault is told.
-use Rattle.std.specs.Prelude.{◌≡◌, ℕ, ◌^◌, ◌<◌, ◌≤◌, ◌⊎◌, false, List, drop, Contains, Option, Some, None}
+-- What is wrong with the number or the word at which a fault is reported.
+use Rattle.std.specs.Prelude.{◌≡◌, ℕ, ◌^◌, ◌<◌, ◌≤◌, ◌⊎◌, false, List, [], drop, Contains, Option, Some, None, codes}
 use Rattle.fj_coeff.specs.Field.{primes}
 use Rattle.fj_text.specs.Token.{Token, Word, Number}
 use Rattle.fj_script.specs.declared.fault.FaultKind.{FaultKind}
@@ -11,9 +11,14 @@ use Rattle.fj_grammar.specs.Beginning.{IsDoomedWith}
 abbrev pub IsNameIn : Session → List ℕ → Type 0
 IsNameIn S w = Contains S.variables w ⊎ ((v : Value) × Contains S.values (w, v))
 
--- A token that is wrong in this way behind these tokens of its line: of the ring's line, where there is no session yet, and else
--- of a line behind this session.
+-- A word that begins a statement, but not the ring's.
+abbrev pub BeginsLater : List ℕ → Type 0
+BeginsLater w = (w ≡ codes "order") ⊎ (w ≡ codes "budget") ⊎ (w ≡ codes "poly") ⊎ (w ≡ codes "ideal") ⊎ (w ≡ codes "point") ⊎ (w ≡ codes "ask")
+
+-- A token that is wrong in this way after these tokens of its line: of the ring's line, where there is no session yet, and else
+-- of a line after this session.
 pub data IsWrong : Option Session → List Token → FaultKind → Token → Type 0 where
+  no_ring : {w : List ℕ} → BeginsLater w → IsWrong None [] kinds.NoRing (Word w)
   no_prime : {ts : List Token} {n : ℕ} → (Contains primes n → ⊥) → IsWrong None ts kinds.Prime (Number n)
   eighth : {ts : List Token} {w : List ℕ} → IsDoomedWith ts (Word w) → IsWrong None ts kinds.Vars (Word w)
   again : {ts : List Token} {w : List ℕ} → Contains (drop 1 ts) (Word w) → IsWrong None ts kinds.Taken (Word w)

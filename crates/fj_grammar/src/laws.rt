@@ -2,7 +2,7 @@
 //! and the check proves it.
 
 ghost use Rattle.fj_grammar.specs.Beginning.{BeginningIsLegal};
-ghost use Rattle.fj_grammar.specs.FirstFault.{FaultIsKnown, NothingBeforeIsWrong};
+ghost use Rattle.fj_grammar.specs.FirstFault.{FaultIsKnown, NothingBeforeIsWrong, OthersFailAtFirst};
 ghost use Rattle.fj_grammar.specs.GrammarLaws.{AcceptedIsSession, SessionIsAccepted};
 ghost use Rattle.fj_grammar.specs.Rank.{KindIsHighest};
 
@@ -22,7 +22,7 @@ pub fn nothing_before_is_wrong()
     ensures { NothingBeforeIsWrong }
 {}
 
-/// A fault is known with the token behind its place: a session that is the same through that token has this very fault,
+/// A fault is known with the token after its place: a session that is the same through that token has this very fault,
 /// whatever follows.
 pub fn fault_is_known()
     ensures { FaultIsKnown }
@@ -30,15 +30,22 @@ pub fn fault_is_known()
 
 /// The text before the place of a fault is legal: its tokens can go on to the ring's line, where there is none yet, and
 /// else to a statement, of this session or of one in which the same words mean the same. Two beginnings are doomed and
-/// yet not wrong: a comma behind seven variables, and a fraction with numerator 0 where t has to be above 0.
+/// yet not wrong: a comma after seven variables, and a fraction with numerator 0 where t has to be above 0.
 pub fn beginning_is_legal()
     ensures { BeginningIsLegal }
 {}
 
-/// Of the kinds that could stand at the place of a fault the highest is told: Byte over all others at a bad byte; Syntax over
-/// the kinds of a number or a word, where no number or word may stand, and over Large and Arity; Prime over Wide; Vars over
-/// Taken; Taken and Large over Many; Wide over Large, Range and Many. And a number or a word is wrong in the way that is told;
-/// Large, Arity and Many have their cause in the text up to the place.
+/// The kind of a fault is the highest that could stand at its place, and it has its cause there. Byte is reported at a bad byte
+/// and nowhere else; NoRing at the first token, where it is the word of another statement than the ring's; Syntax where the line
+/// may not end, or at a token that no statement may have there and at which no other kind has its cause; the kinds of a number
+/// or a word where a number or a word may stand; Large, Arity and Many where the text up to the place has it. Prime is above
+/// Wide, Vars above Taken, Taken and Large above Many, and Wide above Large, Range and Many.
 pub fn kind_is_highest()
     ensures { KindIsHighest }
+{}
+
+/// A session of more than 1,048,576 bytes is Long at 1:1, and one without a token is NoRing there. The laws above are about
+/// all the others.
+pub fn others_fail_at_first()
+    ensures { OthersFailAtFirst }
 {}
