@@ -45,9 +45,10 @@ def remove_tests(crate: pathlib.Path) -> None:
         if not file.exists():
             continue
         text = file.read_text()
+        inside = file.parent if file.stem in ("lib", "main") else file.parent / file.stem
         while found := TESTS.search(text):
+            shutil.rmtree(crate / "proofs" / inside.relative_to(crate / "src") / found[1], ignore_errors=True)
             if found[2] == ";":
-                inside = file.parent if file.stem in ("lib", "main") else file.parent / file.stem
                 (inside / f"{found[1]}.rt").unlink(missing_ok=True)
                 shutil.rmtree(inside / found[1], ignore_errors=True)
                 text = text[: found.start()] + text[found.end() :]
@@ -55,8 +56,6 @@ def remove_tests(crate: pathlib.Path) -> None:
                 # (a module of tests that stands in its file ends it)
                 text = text[: found.start()]
         file.write_text(text.rstrip("\n") + "\n")
-    for folder in list((crate / "proofs").rglob("tests")):
-        shutil.rmtree(folder, ignore_errors=True)
 
 
 def lines(folder: pathlib.Path, pattern: str) -> int:
@@ -74,27 +73,31 @@ def minutes(words: list[str], folder: pathlib.Path) -> float | None:
     return (after.ru_utime + after.ru_stime - before.ru_utime - before.ru_stime) / 60
 
 
+def quietly(words: list[str], folder: pathlib.Path) -> None:
+    subprocess.run(words, cwd=folder, stdout=subprocess.DEVNULL, stderr=subprocess.DEVNULL)
+
+
 def measured(room: pathlib.Path, name: str) -> list[str]:
-    """The cells of a crate's row. The libraries below it are built before the clock runs."""
+    """The cells of a crate's row. The libraries below it are built before the clock runs, and its tests are gone after."""
     crate = room / "crates" / name
     for low in below(name):
-        subprocess.run(["rt", "lib"], cwd=room / "crates" / low, stdout=subprocess.DEVNULL, stderr=subprocess.DEVNULL)
+        quietly(["rt", "lib"], room / "crates" / low)
+    has_tests = any("#[test]" in file.read_text() for file in (crate / "src").rglob("*.rt"))
     whole = lines(crate / "src", "*.rt")
-    has_tests = any("#[test]" in file.read_text() for file in crate.rglob("*.rt"))
-    both = minutes(["rt", "verdict"], crate) if has_tests else 0.0
-    subprocess.run(["rt", "check"], cwd=crate, stdout=subprocess.DEVNULL, stderr=subprocess.DEVNULL)
-    edits = minutes(["rt", "must-fail", "--anew", name], room) if (crate / "must-fail").exists() else 0.0
-    aside = crate.with_name(f"{name}.whole")
-    shutil.copytree(crate, aside, ignore=shutil.ignore_patterns("out"))
+    both = minutes(["rt", "verdict"], crate) if has_tests else None
+    edits = 0.0
+    if (crate / "must-fail").exists():
+        quietly(["rt", "check"], crate)
+        edits = minutes(["rt", "must-fail", "--anew", name], room)
     remove_tests(crate)
     own = lines(crate / "src", "*.rt")
     proof = minutes(["rt", "verdict"], crate)
-    shutil.rmtree(crate)
-    aside.rename(crate)
-    tests = None if both is None or proof is None else max(both - proof, 0.0)
+    tests = 0.0
+    if has_tests:
+        tests = None if both is None or proof is None else max(both - proof, 0.0)
     counts = [own, lines(crate / "specs", "*.antt"), lines(crate / "proofs", "*.antt"), whole - own]
-    times = [proof, tests if has_tests else 0.0, edits]
-    return [str(count) for count in counts] + ["failed" if time is None else f"{time:.1f}" for time in times]
+    times = ["failed" if time is None else f"{time:.1f}" for time in (proof, tests, edits)]
+    return [*map(str, counts), *times]
 
 
 def main() -> int:

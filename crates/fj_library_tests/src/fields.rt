@@ -32,6 +32,7 @@ fn each_prime(rt: HostRuntime) {
 }
 
 // Tells the size of a field.
+#[derive(Drop)]
 struct Size;
 
 impl OverField for Size {
