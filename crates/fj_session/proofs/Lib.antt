@@ -1,4 +1,3 @@
-pub mod Known
 pub mod Residues
 pub mod Stops
 pub mod HighProducts

@@ -11,7 +11,7 @@ use Rattle.fj_script.specs.declared.script.Env.{Env}
 use Rattle.fj_script.specs.declared.script.Script.{Script}
 use Rattle.fj_script.specs.Script as session
 use Rattle.fj_session.specs.Answer.{IsAnswer, is_left}
-use Rattle.fj_session.specs.Asked.{IsScriptOf}
+use Rattle.fj_shell.specs.Asked.{IsScriptOf}
 use Rattle.fj_session.specs.Text.{answer_bytes, fault_line}
 use Rattle.fj_session.specs.declared.types.Answer.{Answer}
 

@@ -5,7 +5,6 @@ mod answering;
 mod ideals;
 mod input;
 pub mod laws;
-mod named;
 mod part_rows;
 mod printing;
 mod program;

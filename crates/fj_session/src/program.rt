@@ -4,7 +4,7 @@ ghost use Rattle.std.specs.Io.KnownBytes.{Appends};
 ghost use Rattle.fj_io.specs.Outside.{AppendsFront, Rose};
 ghost use Rattle.fj_script.specs.declared.question.Asked as question;
 ghost use Rattle.fj_session.specs.Answer.{IsAnswer, is_left};
-ghost use Rattle.fj_session.specs.Asked.{AreOfOneSession, IsScriptOf};
+ghost use Rattle.fj_shell.specs.Asked.{AreOfOneSession, IsScriptOf};
 ghost use Rattle.fj_session.specs.Program.{AppendsCut, AreAnswered, AreFirstOfRun, AreRun, IsRun, pieces_of, status_of, texts_of, together};
 ghost use Rattle.fj_session.specs.Text.{answer_bytes, fault_line};
 ghost use Rattle.fj_session.specs.declared.types.Answer as types;

@@ -2,7 +2,7 @@ use Rattle.std.proofs.Common.{All, List, ◌≡◌, sym, ap, ◌∙◌, subst}
 use Rattle.std.proofs.lemmas.Option.{same_Some}
 use Rattle.fj_theory.specs.Plain.{HasRanksBelow, PlainPolynomial}
 use Rattle.fj_script.specs.declared.value.Value.TheVariants as values
-use Rattle.fj_session.proofs.named.generators_at.Goals as goal
+use Rattle.fj_shell.proofs.named.generators_at.Goals as goal
 
 same_ideal : (f g : List PlainPolynomial) → values.Ideal f ≡ values.Ideal g → f ≡ g
 same_ideal f g e = cc

@@ -2,14 +2,14 @@
 ghost use Rattle.std.specs.Prelude.{◌≡◌, ◌≤◌, ◌^◌, All};
 ghost use Rattle.fj_theory.specs.Exponents.{total};
 ghost use Rattle.fj_theory.specs.Plain.{HasRanksBelow, polynomial};
-ghost use Rattle.fj_session.specs.Asked.{IsIdealAt, IsPolyAt};
-ghost use Rattle.fj_session.specs.Named.{ideal_at, polynomial_at, polynomials};
+ghost use Rattle.fj_shell.specs.Asked.{IsIdealAt, IsPolyAt};
+ghost use Rattle.fj_shell.specs.Named.{ideal_at, polynomial_at, polynomials};
 
 use fj_plain::{PlainList, PlainPoly};
 use fj_script::{Env, Value};
 
 /// The polynomial whose name has this place among the declared ones.
-pub(crate) fn polynomial_at(env: &Env, place: u32) -> &PlainPoly
+pub fn polynomial_at(env: &Env, place: u32) -> &PlainPoly
     requires { IsPolyAt env.now place }
     ensures value { polynomial result.now ≡ polynomial_at env.now place }
     ensures ranks { HasRanksBelow env.now.p result.now }
@@ -23,7 +23,7 @@ pub(crate) fn polynomial_at(env: &Env, place: u32) -> &PlainPoly
 }
 
 /// The generators of the ideal whose name has this place among the declared ones.
-pub(crate) fn generators_at(env: &Env, place: u32) -> &PlainList
+pub fn generators_at(env: &Env, place: u32) -> &PlainList
     requires { IsIdealAt env.now place }
     ensures value { polynomials result.now ≡ ideal_at env.now place }
     ensures ranks { All (HasRanksBelow env.now.p) result.now }
