@@ -8,4 +8,3 @@ pub mod AnswerVariables
 pub mod Places
 pub mod Pieces
 pub mod Variables
-pub mod ReadBytes

@@ -3,7 +3,6 @@
 
 mod answering;
 mod ideals;
-mod input;
 pub mod laws;
 mod part_rows;
 mod printing;

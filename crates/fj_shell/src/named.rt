@@ -9,6 +9,8 @@ use fj_plain::{PlainList, PlainPoly};
 use fj_script::{Env, Value};
 
 /// The polynomial whose name has this place among the declared ones.
+///
+/// Condition: the name stands for a polynomial, as acceptance tells.
 pub fn polynomial_at(env: &Env, place: u32) -> &PlainPoly
     requires { IsPolyAt env.now place }
     ensures value { polynomial result.now ≡ polynomial_at env.now place }
@@ -23,6 +25,8 @@ pub fn polynomial_at(env: &Env, place: u32) -> &PlainPoly
 }
 
 /// The generators of the ideal whose name has this place among the declared ones.
+///
+/// Condition: the name stands for an ideal, as acceptance tells.
 pub fn generators_at(env: &Env, place: u32) -> &PlainList
     requires { IsIdealAt env.now place }
     ensures value { polynomials result.now ≡ ideal_at env.now place }

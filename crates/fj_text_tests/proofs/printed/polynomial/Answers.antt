@@ -5,7 +5,7 @@ use Rattle.fj_plain.specs.Terms.{entry, entries}
 use Rattle.fj_theory.specs.Plain.{PlainPolynomial}
 use Rattle.fj_theory.specs.PointIdeal.{UsesFirst}
 use Rattle.fj_text.proofs.FirstVariables.{AreZeroFrom, uses_first}
-use Rattle.fj_text.proofs.printed.tests.polynomial.Goals as goal
+use Rattle.fj_text_tests.proofs.printed.polynomial.Goals as goal
 
 pub returns : goal.returns
 returns g c =

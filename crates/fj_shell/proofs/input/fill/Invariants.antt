@@ -1,6 +1,6 @@
 use Rattle.std.proofs.Common.{◌-◌, ◌≤◌, length, take}
 use Rattle.std.specs.Io.KnownBytes.{Consumes}
-use Rattle.fj_session.proofs.input.fill.Given as goal
+use Rattle.fj_shell.proofs.input.fill.Given as goal
 
 -- so many bytes were read, and the count of faults has not fallen
 abbrev pub invariant-loop-taken : goal.invariant-loop-taken

@@ -3,13 +3,12 @@ ghost use Rattle.std.specs.Prelude.{IfOk};
 ghost use Rattle.fj_theory.specs.Plain.{polynomial};
 ghost use Rattle.fj_theory.specs.PointIdeal.{UsesFirst};
 
-use super::{print_list, print_poly, print_ratio};
-use crate::names::Names;
 use fj_coeff::{Coeff, Fp};
 use fj_mono::{Grevlex, Mono};
 use fj_plain::{PlainList, PlainPoly, PlainTerm};
 use fj_poly::Poly;
 use fj_ratio::Ratio;
+use fj_text::{Names, print_list, print_poly, print_ratio};
 use std::alloc::{AllocError, Global};
 use std::process::Abort;
 use std::test::Fail;

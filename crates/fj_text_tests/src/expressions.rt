@@ -1,11 +1,9 @@
 //! Expressions and their values or faults.
-use super::read_expr;
-use crate::fault::TextFault;
-use crate::fault::TextFault::{Byte, Large, Syntax, UnknownVar, Wide};
-use crate::names::Names;
 use fj_coeff::{Coeff, Fp};
 use fj_mono::Mono;
 use fj_poly::{GPoly, Poly};
+use fj_text::TextFault::{Byte, Large, Syntax, UnknownVar, Wide};
+use fj_text::{Names, TextFault, read_expr};
 use std::alloc::{AllocError, Global};
 use std::process::Abort;
 use std::test::Fail;

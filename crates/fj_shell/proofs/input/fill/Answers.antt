@@ -5,7 +5,7 @@ use Rattle.std.proofs.lemmas.List.{length-take-le, take-append-le}
 use borrow.Rule.Slice.PartMut.{put_mid, post_of}
 use Rattle.std.specs.Io.KnownBytes.{Consumes}
 use Rattle.fj_io.proofs.KnownBytes.{consumes_more}
-use Rattle.fj_session.proofs.input.fill.Goals as goal
+use Rattle.fj_shell.proofs.input.fill.Goals as goal
 
 -- the front of a list whose bytes from n on were written
 take-put_mid-more : (xs ys : List ℕ) (n k m : ℕ) → n ≤ length xs → m ≤ length ys → take n xs ++ take m ys ≡ take (n + m) (put_mid n k xs ys)

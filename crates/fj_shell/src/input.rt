@@ -3,7 +3,7 @@ ghost use Rattle.std.specs.Prelude.{◌≡◌, ◌+◌, ◌≤◌, ◌⊎◌, le
 ghost use Rattle.std.specs.Io.{ReadsAtMost};
 ghost use Rattle.std.specs.Io.KnownBytes.{Consumes, IsAtEnd};
 ghost use Rattle.fj_io.specs.Outside.{Rose, HasCause};
-ghost use Rattle.fj_session.specs.declared.input.ReadFault.TheVariants.{Failed as ReadFailed, Memory};
+ghost use Rattle.fj_shell.specs.declared.input.ReadFault.TheVariants.{Failed as ReadFailed, Memory};
 
 use fj_io::{Failed, Source};
 use std::alloc::{AllocError, Global};

@@ -1,14 +1,12 @@
 //! Sessions, and sessions with their first faults.
-use super::read_script;
-use crate::fault::FaultKind::{
+use fj_plain::OrderName;
+use fj_script::FaultKind::{
     Arity, Byte, Constant, Kind, Large, Long, Many, NoRing, Prime, Range, Syntax, Taken, Unknown,
     Vars, Wide,
 };
-use crate::fault::{Fault, FaultKind, ScriptFault};
-use crate::question::{AskedList, Question};
-use crate::script::Script;
-use crate::value::{Value, ValueList};
-use fj_plain::OrderName;
+use fj_script::{
+    AskedList, Fault, FaultKind, Question, Script, ScriptFault, Value, ValueList, read_script,
+};
 use std::alloc::{AllocError, Global};
 use std::process::Abort;
 use std::test::Fail;
