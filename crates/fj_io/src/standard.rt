@@ -1,5 +1,8 @@
 //! The readers and writers of the standard library as a source and a sink.
-ghost use Rattle.std.specs.Prelude.{◌≡◌};
+ghost use Rattle.std.specs.Prelude.{◌≡◌, ◌<◌, [], length, IsOk, OnErr, OnOk};
+ghost use Rattle.std.specs.Io.{ReadsAtMost};
+ghost use Rattle.std.specs.Io.KnownBytes.{Appends, ReadConsumes};
+ghost use Rattle.fj_io.specs.Outside.{AppendsFront, CountsFault, HasCause};
 
 use super::{Failed, Sink, Source};
 use std::io::{Read, Write};
@@ -26,7 +29,15 @@ impl<R: Read> Source for StdSource<R> {
 
     ghost faults = { λ s. s.faults };
 
-    fn read(&mut self, into: &mut [u8]) -> Result<usize, Failed> {
+    fn read(&mut self, into: &mut [u8]) -> Result<usize, Failed>
+        requires { 0 < length into.old }
+        ensures bound { ReadsAtMost result into.new }
+        ensures bytes { ReadConsumes (R.remaining self.old.inner) (R.remaining self.new.inner) result into.new }
+        ensures cause { HasCause self.old.faults self.new.faults result }
+
+        // Each failure is one fault more, and nothing else is.
+        ensures counted { CountsFault self.old.faults self.new.faults result }
+    {
         match self.inner.read(into) {
             Ok(count) => Ok(count),
             Err(_) => {
@@ -60,7 +71,15 @@ impl<W: Write> Sink for StdSink<W> {
 
     ghost faults = { λ s. s.faults };
 
-    fn write_all(&mut self, piece: &[u8]) -> Result<(), Failed> {
+    fn write_all(&mut self, piece: &[u8]) -> Result<(), Failed>
+        ensures ok { OnOk result (Appends (W.contents self.old.inner) (W.contents self.new.inner) piece.now) }
+        ensures err { OnErr result (AppendsFront (W.contents self.old.inner) (W.contents self.new.inner) piece.now) }
+        ensures empty { piece.now ≡ [] → IsOk result }
+        ensures cause { HasCause self.old.faults self.new.faults result }
+
+        // Each failure is one fault more, and nothing else is.
+        ensures counted { CountsFault self.old.faults self.new.faults result }
+    {
         let mut rest = piece;
         while !rest.is_empty() {
             match self.inner.write(rest) {

@@ -25,6 +25,62 @@ impl io::Write for Trickle {
     }
 }
 
+/// A reader and a writer of one byte at a call, whose second call fails and no other.
+#[derive(Drop)]
+struct FailsOnce {
+    calls: u8,
+}
+
+impl FailsOnce {
+    fn is_second_call(&mut self) -> bool {
+        self.calls = self.calls.saturating_add(1);
+        self.calls == 2
+    }
+}
+
+impl io::Read for FailsOnce {
+    fn read(&mut self, buf: &mut [u8]) -> io::Result<usize> {
+        if buf.is_empty() {
+            return Ok(0);
+        }
+        if self.is_second_call() {
+            return Err(io::Error::other("the second call"));
+        }
+        Ok(1)
+    }
+}
+
+impl io::Write for FailsOnce {
+    fn write(&mut self, buf: &[u8]) -> io::Result<usize> {
+        if buf.is_empty() {
+            return Ok(0);
+        }
+        if self.is_second_call() {
+            return Err(io::Error::other("the second call"));
+        }
+        Ok(1)
+    }
+
+    fn flush(&mut self) -> io::Result<()> {
+        Ok(())
+    }
+}
+
+// A failure is told at once: no call is made again in its place.
+#[test]
+fn std_adapters_tell_one_failure(rt: HostRuntime) -> Result<(), Fail> {
+    let mut source = StdSource::new(FailsOnce { calls: 0 });
+    for want in [Ok(1), Err(Failed), Ok(1)] {
+        assert_eq!(rt; source.read(&mut [0; 2]), want);
+    }
+
+    let mut sink = StdSink::new(FailsOnce { calls: 0 });
+    for want in [Err(Failed), Ok(())] {
+        assert_eq!(rt; sink.write_all(b"xyz"), want);
+    }
+    Ok(())
+}
+
 #[test]
 fn std_adapters_read_and_write(rt: HostRuntime) -> Result<(), Fail> {
     let text: &[u8] = b"abc";

@@ -12,9 +12,6 @@ use super::session::Session;
 use super::statement::line;
 use std::alloc::Global;
 
-#[cfg(test)]
-mod tests;
-
 /// The most bytes of a session.
 const MAX_BYTES: usize = 1048576;
 

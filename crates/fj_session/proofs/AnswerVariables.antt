@@ -27,10 +27,10 @@ use Rattle.fj_script.specs.declared.script.Env.{Env}
 use Rattle.fj_session.specs.declared.types.Answer.{Answer}
 use Rattle.fj_session.specs.declared.types.Answer.TheVariants.{Parts, Ideal, Yes, No, StoppedPairs, StoppedHigh, Later}
 use Rattle.fj_session.specs.Answer.{AnswerUsesFirst, IsAnswer}
-use Rattle.fj_session.specs.Asked.{AreOfOneSession, IsIdealAt, IsPolyAt}
-use Rattle.fj_session.specs.Named.{ideal_at, polynomial_at, polynomials}
+use Rattle.fj_shell.specs.Asked.{AreOfOneSession, IsIdealAt, IsPolyAt}
+use Rattle.fj_shell.specs.Named.{ideal_at, polynomial_at, polynomials}
 use Rattle.fj_session.specs.Statement.{AsksFor}
-use Rattle.fj_session.proofs.Known.{basis_question, parts_question, power_question, prime_known, product_question, root_question, sum_question}
+use Rattle.fj_shell.proofs.Known.{basis_question, parts_question, power_question, prime_known, product_question, root_question, sum_question}
 use Rattle.fj_session.proofs.Printed.{key_of-IsMonomialOrder, polynomials_of_equal}
 use Rattle.fj_session.proofs.Variables.{rows_use_first}
 

@@ -1,4 +1,3 @@
-pub mod Known
 pub mod Residues
 pub mod Stops
 pub mod HighProducts
@@ -9,4 +8,3 @@ pub mod AnswerVariables
 pub mod Places
 pub mod Pieces
 pub mod Variables
-pub mod ReadBytes

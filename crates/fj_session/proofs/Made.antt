@@ -15,7 +15,7 @@ use Rattle.fj_theory.proofs.Root.{IsRoot-SameIdeal}
 use Rattle.fj_ideal.specs.Ideal.{IsIdealOf, WithBasis}
 use Rattle.fj_script.specs.declared.question.Question.TheVariants as questions
 use Rattle.fj_script.specs.declared.script.Env.{Env}
-use Rattle.fj_session.specs.Named.{ideal_at}
+use Rattle.fj_shell.specs.Named.{ideal_at}
 use Rattle.fj_session.specs.Outcome.{IsIdealFor}
 use Rattle.fj_session.proofs.OwnStops.{polynomials_of_list}
 

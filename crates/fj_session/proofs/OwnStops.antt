@@ -18,7 +18,7 @@ use Rattle.fj_script.specs.declared.script.Env.{Env}
 use Rattle.fj_session.specs.Lists.{AreLow}
 use Rattle.fj_session.specs.Outcome.{IsHighPower, IsHighPowerOf, IsOwnStop, IsRunStop}
 use Rattle.fj_session.specs.Statement.{IsHighProductOf, IsOwnList}
-use Rattle.fj_session.specs.Named.{polynomials}
+use Rattle.fj_shell.specs.Named.{polynomials}
 use Rattle.fj_session.specs.Stop.{IsCauseOf}
 use Rattle.fj_session.proofs.HighProducts.{low_from}
 use Rattle.fj_session.proofs.Stops.{cause_of_more, handed_on, run_stops}

@@ -1,34 +1,18 @@
--- Pieces that are written one after the other, and questions that are answered one after the other.
+-- Questions that are answered one after the other, and the pieces that are their texts.
 use Rattle.std.proofs.Common.{◌≡◌, ℕ, ◌+◌, ◌≤◌, Bool, true, false, ◌||◌, cond, List, [], ◌∷◌, ◌++◌, length, take, Option, Some, None, refl, sym, ap, ◌∙◌, append_assoc, append-nil, arith}
-use Rattle.std.specs.Io.KnownBytes.{Appends}
 use Rattle.std.specs.List.{flat_map, list_any, slice_get}
 use Rattle.std.proofs.lemmas.List.{length-append, length-map, length-take-le, map_push}
 use Rattle.std.proofs.lemmas.List.Concat.{flat_map-append}
 use Rattle.std.proofs.lemmas.List.Elements.{All-append, All-cons, All-nil}
-use Rattle.fj_io.specs.Outside.{Rose}
 use Rattle.fj_text.proofs.Joined.{take_at}
 use Rattle.fj_script.specs.declared.question.Asked.{Asked}
 use Rattle.fj_script.specs.declared.script.Env.{Env}
 use Rattle.fj_session.specs.Answer.{IsAnswer, is_left}
 use Rattle.fj_session.specs.declared.types.Answer.{Answer}
-use Rattle.fj_session.specs.Program.{AreAnswered, pieces_of, status_of, together}
+use Rattle.fj_shell.specs.Shell.{together}
+use Rattle.fj_shell.proofs.Pieces.{flat_push}
+use Rattle.fj_session.specs.Program.{AreAnswered, pieces_of, status_of}
 use Rattle.fj_session.specs.Text.{answer_bytes}
-
-flat_push : {X : Type 0} (f : X → List ℕ) (xs : List X) (x : X) → flat_map f (xs ++ x ∷ []) ≡ flat_map f xs ++ f x
-flat_push f xs x = flat_map-append f xs (x ∷ []) ∙ ap (λ s. flat_map f xs ++ s) (append-nil (f x))
-
--- The texts of the items up to a place.
-pub flat_next : {X : Type 0} (f : X → List ℕ) (xs : List X) (i : ℕ) (x : X) → slice_get xs i ≡ Some x → flat_map f (take (i + 1) xs) ≡ flat_map f (take i xs) ++ f x
-flat_next f xs i x at = ap (flat_map f) (take_at xs i x at) ∙ flat_push f (take i xs) x
-
-pub appends_both : (old middle new : Option (List ℕ)) (xs ys : List ℕ) → Appends old middle xs → Appends middle new ys → Appends old new (xs ++ ys)
-appends_both None middle new xs ys h k = tt
-appends_both (Some a) None new xs ys h k = absurd h
-appends_both (Some a) (Some b) None xs ys h k = absurd k
-appends_both (Some a) (Some b) (Some c) xs ys h k = k ∙ ap (λ s. s ++ ys) h ∙ append_assoc a xs ys
-
-pub rose_later : (before middle now : ℕ) → before ≤ middle → Rose middle now → Rose before now
-rose_later before middle now h k = grind arith
 
 module _ (env : Env) where
   pub together_push : (answered : List (Asked × Answer)) (q : Asked) (a : Answer)
@@ -66,10 +50,3 @@ status_push answered q a = ap (λ b. cond b 3 0) (any_push (λ x. is_left x.1) a
     by true false = refl
     by false true = refl
     by false false = refl
-
-pub appends_nothing : (known : Option (List ℕ)) → Appends known known []
-appends_nothing None = tt
-appends_nothing (Some xs) = sym (append-nil xs)
-
-pub length_push : {X : Type 0} (xs : List X) (x : X) → length (xs ++ x ∷ []) ≡ length xs + 1
-length_push xs x = length-append xs (x ∷ [])

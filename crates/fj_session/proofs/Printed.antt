@@ -22,7 +22,7 @@ use Rattle.fj_script.specs.declared.question.Question.TheVariants as questions
 use Rattle.fj_script.specs.declared.script.Env.{Env}
 use Rattle.fj_session.specs.declared.types.Answer.{Answer}
 use Rattle.fj_session.specs.Answer.{IsAnswerOver}
-use Rattle.fj_session.specs.Named.{ideal_at}
+use Rattle.fj_shell.specs.Named.{ideal_at}
 use Rattle.fj_session.specs.Outcome.{IsIdealFor, IsOwnStop, IsPrintStop, IsShown, IsStopFor}
 use Rattle.fj_session.specs.Statement.{AsksFor, IsHighProductOf, IsListOf, IsOwnList}
 use Rattle.fj_session.specs.Stop.{key_of}

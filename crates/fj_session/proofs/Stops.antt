@@ -9,7 +9,7 @@ use Rattle.fj_plain.specs.declared.order_name.OrderName.{OrderName}
 use Rattle.fj_basis.specs.declared.stop.Stop.{Stop}
 use Rattle.fj_basis.specs.declared.stop.Stop.TheVariants.{Pairs, High, Product, Memory}
 use Rattle.fj_basis.specs.Outcome.{IsKeptOf, IsStopWhere}
-use Rattle.fj_session.specs.Named.{polynomials}
+use Rattle.fj_shell.specs.Named.{polynomials}
 use Rattle.fj_session.specs.Stop.{IsCauseOf, key_of}
 
 -- What holds of the list and the order of a run holds of what is kept.

@@ -12,7 +12,7 @@ use Rattle.fj_script.specs.declared.question.Asked.{Asked}
 use Rattle.fj_script.specs.declared.question.Question.{Question}
 use Rattle.fj_script.specs.declared.question.Question.TheVariants as questions
 use Rattle.fj_script.specs.declared.script.Env.{Env}
-use Rattle.fj_session.specs.Named.{polynomial_at, polynomials}
+use Rattle.fj_shell.specs.Named.{polynomial_at, polynomials}
 use Rattle.fj_session.specs.Statement.{AsksFor, IsFalseOf, IsHighProductOf, IsLeft, IsListOf, IsTrueOf}
 use Rattle.fj_session.specs.Stop.{IsProductOf, IsTooHigh, IsUnfinished, key_of}
 use Rattle.fj_session.specs.declared.types.Answer.{Answer}

@@ -1,5 +1,3 @@
-pub mod Asked
-pub mod Named
 pub mod Lists
 pub mod Statement
 pub mod Stop

@@ -1,23 +1,17 @@
 -- What `fjcalc` writes and how it ends, over the words of the command line and the bytes that the source gave.
 use Rattle.std.specs.Prelude.{◌≡◌, ◌≢◌, ◌≤◌, ◌⊎◌, ℕ, if◌then◌else◌, List, [], ◌∷◌, All, Err, length, map, take, codes}
-use Rattle.std.specs.Borrow.{Bor}
-use Rattle.std.specs.Io.KnownBytes.{Appends, Consumes, IsAtEnd}
 use Rattle.std.specs.List.{flat_map, list_any}
 use Rattle.std.specs.declared.option.Option.{Option}
-use Rattle.fj_io.specs.Outside.{AppendsFront}
 use Rattle.fj_script.specs.declared.fault.Fault.{Fault}
 use Rattle.fj_script.specs.declared.question.Asked.{Asked}
 use Rattle.fj_script.specs.declared.script.Env.{Env}
 use Rattle.fj_script.specs.declared.script.Script.{Script}
 use Rattle.fj_script.specs.Script as session
 use Rattle.fj_session.specs.Answer.{IsAnswer, is_left}
-use Rattle.fj_session.specs.Asked.{IsScriptOf}
-use Rattle.fj_session.specs.Text.{answer_bytes, fault_line}
+use Rattle.fj_shell.specs.Asked.{IsScriptOf}
+use Rattle.fj_shell.specs.Shell.{IsRead, fault_line}
+use Rattle.fj_session.specs.Text.{answer_bytes}
 use Rattle.fj_session.specs.declared.types.Answer.{Answer}
-
--- The texts of the words.
-abbrev pub texts_of : List (Bor (List ℕ)) → List (List ℕ)
-texts_of words = map (λ w. w.now) words
 
 -- The words are `run` alone.
 abbrev pub AreRun : List (List ℕ) → Type 0
@@ -25,12 +19,6 @@ AreRun words = words ≡ codes "run" ∷ []
 
 abbrev pub usage_line : List ℕ
 usage_line = codes "usage: fjcalc run\n"
-
--- The bytes that the source gave: all to its end, or the first 1,048,577, which are too many.
-pub record IsRead (before after : Option (List ℕ)) (bytes : List ℕ) : Type 0 where
-  pub taken : Consumes before after bytes
-  pub short : length bytes ≤ 1048577
-  pub whole : IsAtEnd after ⊎ (length bytes ≡ 1048577)
 
 -- Questions, each with its answer.
 pub record AreAnswered (env : Env) (asked : List Asked) (answered : List (Asked × Answer)) : Type 0 where
@@ -45,21 +33,19 @@ pieces_of env answered = map (λ a. answer_bytes env.vars a.0.number a.1) answer
 abbrev pub status_of : List (Asked × Answer) → ℕ
 status_of answered = if list_any (λ a. is_left a.1) answered then 3 else 0
 
--- The pieces, one after the other.
-abbrev pub together : List (List ℕ) → List ℕ
-together pieces = flat_map (λ piece. piece) pieces
-
 -- The status and the pieces of a session of these bytes: the line of its fault, or the texts of its answers in order.
 abbrev pub IsOutcome : List ℕ → ℕ → List (List ℕ) → Type 0
 IsOutcome bytes status pieces =
     ((fault : Fault) × (session.script bytes ≡ Err fault) × (status ≡ 2) × (pieces ≡ fault_line fault ∷ []))
     ⊎ ((script : Script) × IsScriptOf bytes script × ((answered : List (Asked × Answer)) × AreAnswered script.env script.asked answered × (status ≡ status_of answered) × (pieces ≡ pieces_of script.env answered)))
 
+-- The texts of the answers to the first questions of a session.
+abbrev pub AreFirstAnswers : List ℕ → List (List ℕ) → Type 0
+AreFirstAnswers bytes pieces = (script : Script) × IsScriptOf bytes script × ((answered : List (Asked × Answer)) × AreAnswered script.env (take (length answered) script.asked) answered × (pieces ≡ pieces_of script.env answered))
+
 -- The first pieces of a session: the line of its fault, or the texts of the answers to its first questions.
 abbrev pub AreFirst : List ℕ → List (List ℕ) → Type 0
-AreFirst bytes pieces =
-    ((fault : Fault) × (session.script bytes ≡ Err fault) × (pieces ≡ fault_line fault ∷ []))
-    ⊎ ((script : Script) × IsScriptOf bytes script × ((answered : List (Asked × Answer)) × AreAnswered script.env (take (length answered) script.asked) answered × (pieces ≡ pieces_of script.env answered)))
+AreFirst bytes pieces = ((fault : Fault) × (session.script bytes ≡ Err fault) × (pieces ≡ fault_line fault ∷ [])) ⊎ AreFirstAnswers bytes pieces
 
 -- The status and the pieces of a run that nothing outside ends, over its words and what the source had before and after.
 abbrev pub IsRun : List (List ℕ) → Option (List ℕ) → Option (List ℕ) → ℕ → List (List ℕ) → Type 0
@@ -72,7 +58,3 @@ abbrev pub AreFirstOfRun : List (List ℕ) → Option (List ℕ) → Option (Lis
 AreFirstOfRun words before after pieces =
     (words ≢ codes "run" ∷ []) × (pieces ≡ usage_line ∷ [])
     ⊎ AreRun words × ((bytes : List ℕ) × IsRead before after bytes × AreFirst bytes pieces)
-
--- Known bytes grow by whole pieces and a front of the next one.
-abbrev pub AppendsCut : Option (List ℕ) → Option (List ℕ) → List (List ℕ) → List ℕ → Type 0
-AppendsCut old new whole next = (middle : Option (List ℕ)) × Appends old middle (together whole) × AppendsFront middle new next

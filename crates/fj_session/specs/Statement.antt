@@ -12,7 +12,7 @@ use Rattle.fj_plain.specs.declared.order_name.OrderName.TheVariants.{Grevlex}
 use Rattle.fj_script.specs.declared.question.Question.{Question}
 use Rattle.fj_script.specs.declared.question.Question.TheVariants as questions
 use Rattle.fj_script.specs.declared.script.Env.{Env}
-use Rattle.fj_session.specs.Named.{ideal_at, polynomial_at}
+use Rattle.fj_shell.specs.Named.{ideal_at, polynomial_at}
 use Rattle.fj_session.specs.Lists.{IsHighMember, IsHighPair, IsPowerList, IsProductList, IsRootList, IsSumList}
 
 -- The question asks for the ideal (M).

@@ -9,7 +9,7 @@ use Rattle.fj_plain.specs.declared.order_name.OrderName.{OrderName}
 use Rattle.fj_plain.specs.declared.order_name.OrderName.TheVariants.{Lex, Grlex, Grevlex, Elim}
 use Rattle.fj_basis.specs.declared.stop.Stop.{Stop}
 use Rattle.fj_basis.specs.declared.stop.Stop.TheVariants.{Pairs, High, Product, Memory}
-use Rattle.fj_session.specs.Named.{polynomials}
+use Rattle.fj_shell.specs.Named.{polynomials}
 
 -- The key of the order with this name.
 abbrev pub key_of : OrderName → List ℕ → List ℕ

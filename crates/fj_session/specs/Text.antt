@@ -1,10 +1,7 @@
--- The printed texts of answers and faults, as bytes.
+-- The printed texts of answers, as bytes.
 use Rattle.std.specs.Prelude.{ℕ, List, [], ◌∷◌, ◌++◌, length, map, take, codes, decimal}
 use Rattle.std.specs.List.{flat_map}
 use Rattle.fj_text.specs.Printed.{joined, list_bytes, polynomial_bytes}
-use Rattle.fj_script.specs.declared.fault.Fault.{Fault}
-use Rattle.fj_script.specs.declared.fault.FaultKind.{FaultKind}
-use Rattle.fj_script.specs.declared.fault.FaultKind.TheVariants as kinds
 use Rattle.fj_session.specs.declared.types.Answer.{Answer}
 use Rattle.fj_session.specs.declared.types.Answer.TheVariants.{Parts, Ideal, Yes, No, StoppedPairs, StoppedHigh, Later}
 use Rattle.fj_session.specs.declared.types.PartRow.{PartRow}
@@ -31,24 +28,3 @@ answer_bytes names number No = decimal number ++ codes ": no\n"
 answer_bytes names number (StoppedPairs k) = decimal number ++ codes ": stopped pairs\n"
 answer_bytes names number (StoppedHigh k) = decimal number ++ codes ": stopped high\n"
 answer_bytes names number Later = decimal number ++ codes ": later\n"
-
-abbrev pub kind_bytes : FaultKind → List ℕ
-kind_bytes kinds.Long = codes "Long"
-kind_bytes kinds.Byte = codes "Byte"
-kind_bytes kinds.Syntax = codes "Syntax"
-kind_bytes kinds.NoRing = codes "NoRing"
-kind_bytes kinds.Prime = codes "Prime"
-kind_bytes kinds.Vars = codes "Vars"
-kind_bytes kinds.Taken = codes "Taken"
-kind_bytes kinds.Unknown = codes "Unknown"
-kind_bytes kinds.Kind = codes "Kind"
-kind_bytes kinds.Wide = codes "Wide"
-kind_bytes kinds.Large = codes "Large"
-kind_bytes kinds.Constant = codes "Constant"
-kind_bytes kinds.Arity = codes "Arity"
-kind_bytes kinds.Many = codes "Many"
-kind_bytes kinds.Range = codes "Range"
-
--- The line of a fault: `fault KIND at LINE:COLUMN`.
-unfoldable pub fault_line : Fault → List ℕ
-fault_line fault = codes "fault " ++ kind_bytes fault.kind ++ codes " at " ++ decimal fault.line ++ codes ":" ++ decimal fault.column ++ codes "\n"

@@ -3,11 +3,10 @@ ghost use Rattle.std.specs.Prelude.{◌≡◌, IfErr, IfOk, length, if◌then◌
 ghost use Rattle.fj_coeff.specs.PrimeField.{prime_field};
 ghost use Rattle.fj_session.specs.declared.types.Answer.TheVariants as answers;
 ghost use Rattle.fj_session.specs.Answer.{AnswerUsesFirst, IsAnswer, IsAnswerOver};
-ghost use Rattle.fj_session.specs.Asked.{AreOfOneSession};
+ghost use Rattle.fj_shell.specs.Asked.{AreOfOneSession};
 ghost use Rattle.fj_session.specs.Outcome.{IsPrintStop, IsShown, IsStopFor};
 
 use super::ideals::{are_same, declared, frobenius_power, is_member, product, root, sum};
-use super::named::polynomial_at;
 use super::part_rows::part_rows;
 use super::shown::shown_basis;
 use super::types::Answer;
@@ -15,6 +14,7 @@ use fj_basis::Stop;
 use fj_coeff::{Coeff, OverField, over_prime_field};
 use fj_ideal::Ideal;
 use fj_script::{Asked, Env, Question};
+use fj_shell::polynomial_at;
 use std::alloc::{AllocError, Global};
 
 /// The answer to a question of a session, over the prime field GF(p) of its ring.

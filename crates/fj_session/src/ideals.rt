@@ -11,13 +11,12 @@ ghost use Rattle.fj_plain.specs.declared.order_name.OrderName.TheVariants as ord
 ghost use Rattle.fj_poly.specs.Limit.{IsHigh};
 ghost use Rattle.fj_ideal.specs.Ideal.{IsIdealOf};
 ghost use Rattle.fj_script.specs.declared.question.Question.TheVariants as questions;
-ghost use Rattle.fj_session.specs.Asked.{IsIdealAt, IsPolyAt};
-ghost use Rattle.fj_session.specs.Named.{ideal_at};
+ghost use Rattle.fj_shell.specs.Asked.{IsIdealAt, IsPolyAt};
+ghost use Rattle.fj_shell.specs.Named.{ideal_at};
 ghost use Rattle.fj_session.specs.Lists.{AreLow};
 ghost use Rattle.fj_session.specs.Outcome.{IsHighPowerOf, IsIdealFor, IsOwnStop, IsRunStop};
 ghost use Rattle.fj_session.specs.Statement.{IsFalseOf, IsTrueOf};
 
-use super::named::{generators_at, polynomial_at};
 use super::shown::{from_plain, to_plain};
 use fj_basis::Stop;
 use fj_coeff::Coeff;
@@ -26,6 +25,7 @@ use fj_plain::{Kept, OrderName};
 use fj_poly::{GPoly, Poly, PolyFault};
 use fj_root::{frob_power, root_list};
 use fj_script::Env;
+use fj_shell::{generators_at, polynomial_at};
 use std::alloc::Global;
 use std::slice;
 

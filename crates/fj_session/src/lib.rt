@@ -3,9 +3,7 @@
 
 mod answering;
 mod ideals;
-mod input;
 pub mod laws;
-mod named;
 mod part_rows;
 mod printing;
 mod program;

@@ -1,17 +1,16 @@
-//! The printed texts of answers and faults.
+//! The printed texts of answers.
 ghost use Rattle.std.specs.Prelude.{ℕ, ◌≡◌, ◌==◌, ◌≤◌, [], ◌++◌, All, length, map, take, codes, decimal, IfOk, OnOk, if◌then◌else◌};
 ghost use Rattle.fj_theory.specs.Plain.{polynomial};
 ghost use Rattle.fj_theory.specs.PointIdeal.{UsesFirst};
 ghost use Rattle.fj_text.specs.Printed.{list_bytes};
 ghost use Rattle.fj_session.specs.Answer.{AnswerUsesFirst, RowUsesFirst};
-ghost use Rattle.fj_session.specs.Text.{answer_bytes, fault_line, kind_bytes, residue_bytes, row_line, rows_bytes};
+ghost use Rattle.fj_session.specs.Text.{answer_bytes, residue_bytes, row_line, rows_bytes};
 
 use super::types::{Answer, PartList, PartRow};
 use fj_mono::Mono;
 use fj_plain::PlainList;
-use fj_script::{Fault, FaultKind};
+use fj_shell::push_decimal;
 use fj_text::{Names, print_list, print_poly};
-use itoa::Buffer;
 use std::alloc::{AllocError, Global};
 
 /// The text of the answer to the question with this number. The variables have these names.
@@ -41,45 +40,6 @@ pub fn print_answer(
         Answer::Later => push_word(&mut out, number, b": later\n")?,
     }
     Ok(out)
-}
-
-/// The line of a fault: `fault KIND at LINE:COLUMN`.
-#[tactic(auto, unfolding(crate::specs::Text::fault_line))]
-pub(crate) fn print_fault(alloc: Global, fault: &Fault) -> Result<Vec<u8>, AllocError>
-    ensures { IfOk result (λ text. text.items ≡ fault_line fault.now) }
-{
-    let mut out = Vec::new(alloc);
-    out.extend_from_slice(b"fault ")?;
-    out.extend_from_slice(kind_name(fault.kind))?;
-    out.extend_from_slice(b" at ")?;
-    push_decimal(&mut out, u64::from(fault.line))?;
-    out.push(b':')?;
-    push_decimal(&mut out, u64::from(fault.column))?;
-    out.push(b'\n')?;
-    Ok(out)
-}
-
-/// The printed name of a kind of fault.
-fn kind_name(kind: FaultKind) -> &'static [u8]
-    ensures { result.now ≡ kind_bytes kind }
-{
-    match kind {
-        FaultKind::Long => b"Long",
-        FaultKind::Byte => b"Byte",
-        FaultKind::Syntax => b"Syntax",
-        FaultKind::NoRing => b"NoRing",
-        FaultKind::Prime => b"Prime",
-        FaultKind::Vars => b"Vars",
-        FaultKind::Taken => b"Taken",
-        FaultKind::Unknown => b"Unknown",
-        FaultKind::Kind => b"Kind",
-        FaultKind::Wide => b"Wide",
-        FaultKind::Large => b"Large",
-        FaultKind::Constant => b"Constant",
-        FaultKind::Arity => b"Arity",
-        FaultKind::Many => b"Many",
-        FaultKind::Range => b"Range",
-    }
 }
 
 /// Appends the lines of the parts, for the question with this number.
@@ -168,12 +128,4 @@ fn push_word(out: &mut Vec<u8>, number: u32, word: &[u8]) -> Result<(), AllocErr
 {
     push_decimal(out, u64::from(number))?;
     out.extend_from_slice(word)
-}
-
-/// Appends a number in decimal.
-fn push_decimal(out: &mut Vec<u8>, number: u64) -> Result<(), AllocError>
-    ensures { OnOk result (out.new.items ≡ out.old.items ++ decimal number) }
-{
-    let mut buffer = Buffer::new();
-    out.extend_from_slice(buffer.format(number).as_bytes())
 }

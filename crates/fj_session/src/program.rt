@@ -3,67 +3,21 @@ ghost use Rattle.std.specs.Prelude.{◌≡◌, ◌≢◌, ◌≤◌, ◌<◌, �
 ghost use Rattle.std.specs.Io.KnownBytes.{Appends};
 ghost use Rattle.fj_io.specs.Outside.{AppendsFront, Rose};
 ghost use Rattle.fj_script.specs.declared.question.Asked as question;
+ghost use Rattle.fj_shell.specs.Asked.{AreOfOneSession, IsScriptOf};
+ghost use Rattle.fj_shell.specs.Shell.{AppendsCut, IsRead, texts_of, together};
 ghost use Rattle.fj_session.specs.Answer.{IsAnswer, is_left};
-ghost use Rattle.fj_session.specs.Asked.{AreOfOneSession, IsScriptOf};
-ghost use Rattle.fj_session.specs.Program.{AppendsCut, AreAnswered, AreFirstOfRun, AreRun, IsRun, pieces_of, status_of, texts_of, together};
-ghost use Rattle.fj_session.specs.Text.{answer_bytes, fault_line};
+ghost use Rattle.fj_session.specs.Program.{AreAnswered, AreFirstAnswers, AreFirstOfRun, AreRun, IsRun, pieces_of, status_of};
+ghost use Rattle.fj_session.specs.Text.{answer_bytes};
 ghost use Rattle.fj_session.specs.declared.types.Answer as types;
-ghost use Rattle.fj_session.specs.declared.program.Unwritten.TheVariants.{WriteFailed, NoMemory};
-
-#[cfg(test)]
-mod tests;
 
 use super::answering::answer;
-use super::input::{ReadFault, read_session};
-use super::printing::{print_answer, print_fault};
+use super::printing::print_answer;
 use super::types::Answer;
-use fj_io::{Failed, Sink, Source};
-use fj_script::{Asked, Env, Fault, Script, ScriptFault, read_script};
-use std::alloc::{AllocError, Global};
-
-/// All questions were answered.
-const ANSWERED: u8 = 0;
-
-/// The usage line was written.
-const USAGE: u8 = 1;
-
-/// The line of a fault was written.
-const FAULT: u8 = 2;
-
-/// Some questions stopped, or are left for later.
-const LEFT: u8 = 3;
-
-/// A read failed.
-const READ_FAILED: u8 = 4;
-
-/// A write failed.
-const WRITE_FAILED: u8 = 5;
-
-/// Memory was wanting.
-const NO_MEMORY: u8 = 6;
-
-/// Why a piece was not written.
-#[derive(Clone, Copy, Debug)]
-enum Unwritten {
-    WriteFailed,
-    NoMemory,
-}
-
-impl From<Failed> for Unwritten {
-    ghost from_gives = { λ _ e. e ≡ WriteFailed };
-
-    fn from(_failed: Failed) -> Unwritten {
-        Unwritten::WriteFailed
-    }
-}
-
-impl From<AllocError> for Unwritten {
-    ghost from_gives = { λ _ e. e ≡ NoMemory };
-
-    fn from(_error: AllocError) -> Unwritten {
-        Unwritten::NoMemory
-    }
-}
+use fj_io::{Sink, Source};
+use fj_script::{Asked, Env, Script};
+use fj_shell::status::{ANSWERED, LEFT, NO_MEMORY, READ_FAILED, USAGE, WRITE_FAILED};
+use fj_shell::{Unread, Unwritten, read_whole_script, write_fault, write_text};
+use std::alloc::Global;
 
 /// Whether the words are `run` alone.
 fn are_run(words: &[&str]) -> bool
@@ -139,31 +93,6 @@ fn answer_all<K: Sink>(alloc: Global, script: &Script, sink: &mut K) -> u8
     status
 }
 
-/// Hands a text to the sink, and answers the status.
-fn write<K: Sink>(sink: &mut K, status: u8, text: &[u8]) -> u8
-    requires { status < 4 }
-    ensures written { result < 4 → (result ≡ status) × Appends (K.taken sink.old) (K.taken sink.new) text.now }
-    ensures failed { 4 ≤ result → (result ≡ 5) × AppendsFront (K.taken sink.old) (K.taken sink.new) text.now × Rose (K.faults sink.old) (K.faults sink.new) }
-{
-    match sink.write_all(text) {
-        Ok(()) => status,
-        Err(_) => WRITE_FAILED,
-    }
-}
-
-/// Hands the line of a fault to the sink, and answers the status.
-fn write_fault<K: Sink>(alloc: Global, fault: &Fault, sink: &mut K) -> u8
-    ensures written { result < 4 → (result ≡ 2) × Appends (K.taken sink.old) (K.taken sink.new) (fault_line fault.now) }
-    ensures failed { result ≡ 5 → AppendsFront (K.taken sink.old) (K.taken sink.new) (fault_line fault.now) × Rose (K.faults sink.old) (K.faults sink.new) }
-    ensures memory { result ≡ 6 → sink.new ≡ sink.old }
-    ensures statuses { (result ≤ 6) × (result ≢ 4) }
-{
-    match print_fault(alloc, fault) {
-        Ok(line) => write(sink, FAULT, &line),
-        Err(_) => NO_MEMORY,
-    }
-}
-
 /// Reads a session from the source, answers its questions and hands the text of each answer to the sink, in order and
 /// each in one piece. The words are those of the command line, without the program's name. A session is read to its end,
 /// or until it is longer than 1,048,576 bytes, before it is answered.
@@ -176,7 +105,8 @@ fn write_fault<K: Sink>(alloc: Global, fault: &Fault, sink: &mut K) -> u8
 /// - 3: the session has no fault, some questions stopped or are left for later, and the answers were written.
 /// - 4: a read failed. Nothing was written.
 /// - 5: a write failed. The texts before it and a front of its own were written.
-/// - 6: memory was wanting. The texts of the answers before were written, or nothing.
+/// - 6: memory was wanting. Either there was no room for the session, and nothing was read or written; or the session was
+///   read, and the texts of the answers before were written, or nothing. No line of a fault was written.
 pub fn run<S: Source, K: Sink>(alloc: Global, words: &[&str], source: &mut S, sink: &mut K) -> u8
     // What is written where nothing outside fails.
     ensures whole { result < 4 → (pieces : List (List ℕ))
@@ -191,23 +121,20 @@ pub fn run<S: Source, K: Sink>(alloc: Global, words: &[&str], source: &mut S, si
         × AreFirstOfRun (texts_of words.now) (S.left source.old) (S.left source.new) (whole ++ next ∷ [])
         × AppendsCut (K.taken sink.old) (K.taken sink.new) whole next) }
     ensures memory { result ≡ 6 → AreRun (texts_of words.now)
-        × ((sink.new ≡ sink.old) ⊎ ((whole : List (List ℕ))
-        × AreFirstOfRun (texts_of words.now) (S.left source.old) (S.left source.new) whole
-        × Appends (K.taken sink.old) (K.taken sink.new) (together whole))) }
+        × ((source.new ≡ source.old) × (sink.new ≡ sink.old)
+        ⊎ ((bytes : List ℕ) × IsRead (S.left source.old) (S.left source.new) bytes
+        × ((sink.new ≡ sink.old) ⊎ ((whole : List (List ℕ)) × AreFirstAnswers bytes whole
+        × Appends (K.taken sink.old) (K.taken sink.new) (together whole))))) }
     ensures statuses { result ≤ 6 }
     ensures unread { (AreRun (texts_of words.now) → ⊥) → source.new ≡ source.old }
 {
     if !are_run(words) {
-        return write(sink, USAGE, b"usage: fjcalc run\n");
+        return write_text(sink, USAGE, b"usage: fjcalc run\n");
     }
-    let bytes = match read_session(alloc, source) {
-        Ok(bytes) => bytes,
-        Err(ReadFault::Failed) => return READ_FAILED,
-        Err(ReadFault::Memory) => return NO_MEMORY,
-    };
-    match read_script(alloc, &bytes) {
+    match read_whole_script(alloc, source) {
         Ok(script) => answer_all(alloc, &script, sink),
-        Err(ScriptFault::At(fault)) => write_fault(alloc, &fault, sink),
-        Err(ScriptFault::Memory) => NO_MEMORY,
+        Err(Unread::At(fault)) => write_fault(alloc, &fault, sink),
+        Err(Unread::Failed) => READ_FAILED,
+        Err(Unread::Memory) => NO_MEMORY,
     }
 }

@@ -7,7 +7,7 @@ ghost use Rattle.fj_groebner.specs.Run.{TooHigh, Unfinished};
 ghost use Rattle.fj_plain.specs.OrderRow.{order_in_row};
 ghost use Rattle.fj_basis.specs.Outcome.{IsStopWhere};
 ghost use Rattle.fj_session.specs.Answer.{IsShownBasis};
-ghost use Rattle.fj_session.specs.Named.{polynomials};
+ghost use Rattle.fj_shell.specs.Named.{polynomials};
 ghost use Rattle.fj_session.specs.Outcome.{IsPrintStop};
 ghost use Rattle.fj_session.specs.Stop.{key_of};
 

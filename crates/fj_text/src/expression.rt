@@ -353,6 +353,9 @@ fn parenthesised<K: Coeff, S: Scope>(
 ///
 /// Sums and products are formed from the left, and `E^k` by k - 1 products from the left. Each value formed on the way
 /// has at most 1,000 terms and a degree of at most 1,000; at most 64 parentheses are around each other.
+///
+/// After a fault, or where memory is out, the reader is spent: where it stands then isn't said. Each call of it still
+/// meets its contract.
 #[tactic(auto, unfolding(crate::specs::Expression::expression))]
 pub fn read_expression<K: Coeff, S: Scope>(
     alloc: Global,

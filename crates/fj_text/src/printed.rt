@@ -12,9 +12,6 @@ use fj_ratio::Ratio;
 use itoa::Buffer;
 use std::alloc::{AllocError, Global};
 
-#[cfg(test)]
-mod tests;
-
 /// The text of a polynomial: its terms in their order, joined by `+`; zero is `0`. A term is its coefficient and its
 /// powers, joined by `*`. The exponent 1 is left out, and so is the coefficient 1 of a term that isn't constant.
 ///

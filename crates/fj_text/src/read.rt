@@ -11,9 +11,6 @@ use fj_coeff::Coeff;
 use fj_poly::GPoly;
 use std::alloc::Global;
 
-#[cfg(test)]
-mod tests;
-
 impl Scope for Names {
     ghost use Rattle.fj_text.specs.Reading.{meaning_among};
 

@@ -1,7 +1,7 @@
 use Rattle.std.proofs.Common.{refl}
 use Rattle.fj_script.specs.declared.question.Question.TheVariants as questions
-use Rattle.fj_session.specs.Named.{ideal_at}
-use Rattle.fj_session.proofs.Known.{basis_question, member_question, parts_question, power_question, product_question, root_question, same_question, sum_question}
+use Rattle.fj_shell.specs.Named.{ideal_at}
+use Rattle.fj_shell.proofs.Known.{basis_question, member_question, parts_question, power_question, product_question, root_question, same_question, sum_question}
 use Rattle.fj_session.proofs.OwnStops.{own_declared}
 use Rattle.fj_session.proofs.Printed.{answer_for, declared_for, own_stop_for, print_stop_for}
 use Rattle.fj_session.proofs.answering.found.Goals as goal

@@ -4,7 +4,7 @@ use Rattle.fj_theory.specs.Ideal.{SameIdeal}
 use Rattle.fj_theory.proofs.Ideal.{SameIdeal-refl}
 use Rattle.fj_ideal.specs.Ideal.{IsIdealOf}
 use Rattle.fj_script.specs.declared.question.Question.TheVariants as questions
-use Rattle.fj_session.specs.Named.{ideal_at}
+use Rattle.fj_shell.specs.Named.{ideal_at}
 use Rattle.fj_session.proofs.OwnStops.{own_handed_on, polynomials_of_list}
 use Rattle.fj_session.proofs.ideals.are_same.Goals as goal
 

@@ -1,7 +1,7 @@
 use Rattle.std.proofs.Common.{◌≡◌, All, sym, ap, ◌∙◌, subst, refl}
 use Rattle.fj_theory.specs.Plain.{HasRanksBelow}
 use Rattle.fj_plain.specs.declared.order_name.OrderName.TheVariants.{Grevlex}
-use Rattle.fj_session.specs.Named.{ideal_at}
+use Rattle.fj_shell.specs.Named.{ideal_at}
 use Rattle.fj_session.proofs.Stops.{run_stops}
 use Rattle.fj_session.proofs.ideals.declared.Goals as goal
 

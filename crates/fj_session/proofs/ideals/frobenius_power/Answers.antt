@@ -4,7 +4,7 @@ use Rattle.fj_theory.specs.FrobeniusPower.{frobenius_power}
 use Rattle.fj_plain.specs.declared.order_name.OrderName.TheVariants.{Grevlex}
 use Rattle.fj_ideal.specs.Ideal.{IsIdealOf}
 use Rattle.fj_script.specs.declared.question.Question.TheVariants as questions
-use Rattle.fj_session.specs.Named.{ideal_at}
+use Rattle.fj_shell.specs.Named.{ideal_at}
 use Rattle.fj_session.specs.Lists.{AreLow}
 use Rattle.fj_session.specs.Outcome.{IsHighPowerOf, IsIdealFor}
 use Rattle.fj_session.specs.Statement.{IsHighProductOf, IsOwnList}

@@ -4,7 +4,7 @@ use Rattle.fj_theory.specs.MonomialOrder.{grevlex_key}
 use Rattle.fj_groebner.specs.ReducedBasis.{IsReducedBasis}
 use Rattle.fj_ideal.specs.Ideal.{IsIdealOf}
 use Rattle.fj_script.specs.declared.question.Question.TheVariants as questions
-use Rattle.fj_session.specs.Named.{ideal_at}
+use Rattle.fj_shell.specs.Named.{ideal_at}
 use Rattle.fj_session.proofs.OwnStops.{basis_of_list, own_handed_on, own_products}
 use Rattle.fj_session.proofs.ideals.product.Goals as goal
 

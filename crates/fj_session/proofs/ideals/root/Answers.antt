@@ -4,7 +4,7 @@ use Rattle.fj_theory.specs.Root.{IsRoot}
 use Rattle.fj_root.specs.Root.{ArePartsOf}
 use Rattle.fj_ideal.specs.Ideal.{IsIdealOf}
 use Rattle.fj_script.specs.declared.question.Question.TheVariants as questions
-use Rattle.fj_session.specs.Named.{ideal_at}
+use Rattle.fj_shell.specs.Named.{ideal_at}
 use Rattle.fj_session.specs.Outcome.{IsIdealFor}
 use Rattle.fj_session.proofs.Made.{root_made}
 use Rattle.fj_session.proofs.OwnStops.{basis_of_list, own_handed_on, own_run, polynomials_of_list}

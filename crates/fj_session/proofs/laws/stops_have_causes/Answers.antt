@@ -5,7 +5,7 @@ use Rattle.fj_script.specs.declared.script.Env.{Env}
 use Rattle.fj_plain.specs.declared.lists.Kept.{Kept}
 use Rattle.fj_session.specs.Answer.{IsAnswer}
 use Rattle.fj_session.specs.AnswerLaws.{IsStop, NothingStops}
-use Rattle.fj_session.specs.Named.{polynomials}
+use Rattle.fj_shell.specs.Named.{polynomials}
 use Rattle.fj_session.specs.Statement.{IsHighProductOf, IsListOf}
 use Rattle.fj_session.specs.Stop.{IsProductOf, IsTooHigh}
 use Rattle.fj_session.specs.declared.types.Answer.{Answer}

@@ -2,7 +2,7 @@ use Rattle.std.proofs.Common.{◌++◌, length, sym, ap, ◌∙◌, subst, appen
 use Rattle.std.proofs.lemmas.Option.{get_or_from_slice_get, slice_get_within}
 use Rattle.fj_session.specs.Answer.{RowUsesFirst}
 use Rattle.fj_session.specs.Text.{row_line}
-use Rattle.fj_session.proofs.Pieces.{flat_next}
+use Rattle.fj_shell.proofs.Pieces.{flat_next}
 use Rattle.fj_session.proofs.printing.push_rows.Goals as goal
 
 pub push_row-requires : goal.push_row-requires

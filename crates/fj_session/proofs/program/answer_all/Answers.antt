@@ -2,7 +2,9 @@ use Rattle.std.proofs.Common.{◌+◌, ◌++◌, ◌∷◌, [], take, Err, cond,
 use Rattle.std.specs.Io.KnownBytes.{Appends}
 use Rattle.std.proofs.lemmas.Option.{slice_get_within}
 use Rattle.fj_session.specs.Program.{AreAnswered}
-use Rattle.fj_session.proofs.Pieces.{answered_count, answered_push, appends_both, rose_later, status_push, together_push}
+use Rattle.fj_io.proofs.KnownBytes.{appends_more}
+use Rattle.fj_shell.proofs.Pieces.{rose_later}
+use Rattle.fj_session.proofs.Pieces.{answered_count, answered_push, status_push, together_push}
 use Rattle.fj_session.proofs.program.answer_all.Goals as goal
 
 pub returns-in-Err-WriteFailed-clause-failed : goal.returns-in-Err-WriteFailed-clause-failed
@@ -38,6 +40,6 @@ loop-i-preserved g c =
       before.0 ++ (q, a) ∷ [],
       answered_push env asked c.loop-i.i q before.0 a c.get.ensures before.1 one.1,
       c.status_after-status.ensures ∙ ap₂ (λ l s. cond l 3 s) one.2 before.2 ∙ sym (status_push before.0 q a),
-      subst (Appends (g.K.Sink.taken c.args.sink.now) (g.K.Sink.taken c.answer_one.new.sink)) (sym (together_push env before.0 q a)) (appends_both _ (g.K.Sink.taken c.loop-i.sink) _ _ _ before.3 one.3),
+      subst (Appends (g.K.Sink.taken c.args.sink.now) (g.K.Sink.taken c.answer_one.new.sink)) (sym (together_push env before.0 q a)) (appends_more _ (g.K.Sink.taken c.loop-i.sink) _ _ _ before.3 one.3),
       omega (arith, earlier, later),
     )

@@ -2,7 +2,8 @@ use Rattle.std.proofs.Common.{◌≡◌, ◌≤◌, List, take}
 use Rattle.std.specs.Io.KnownBytes.{Appends}
 use Rattle.fj_script.specs.declared.question.Asked.{Asked}
 use Rattle.fj_session.specs.declared.types.Answer.{Answer}
-use Rattle.fj_session.specs.Program.{AreAnswered, pieces_of, status_of, together}
+use Rattle.fj_shell.specs.Shell.{together}
+use Rattle.fj_session.specs.Program.{AreAnswered, pieces_of, status_of}
 use Rattle.fj_session.proofs.program.answer_all.Given as goal
 
 -- the first questions are answered, and the texts of their answers written

@@ -1,7 +1,7 @@
 use Rattle.std.proofs.Common.{◌≡◌, ◌∷◌, [], ℕ, List, length, get_or, codes, sym, ap, ◌∙◌, refl, arith}
 use Rattle.std.specs.Borrow.{Bor}
 use Rattle.std.proofs.lemmas.Slice.Eq.{bytes_eq-Decides}
-use Rattle.fj_session.specs.Program.{texts_of}
+use Rattle.fj_shell.specs.Shell.{texts_of}
 use Rattle.fj_session.proofs.program.are_run.Goals as goal
 
 single : (words : List (Bor (List ℕ))) (default : Bor (List ℕ)) → length words ≡ 1 → texts_of words ≡ (get_or words 0 default).now ∷ []

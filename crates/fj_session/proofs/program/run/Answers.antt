@@ -1,23 +1,21 @@
-use Rattle.std.proofs.Common.{◌++◌, ◌∷◌, [], take, Err, refl, inl, inr, arith, sym, ◌∙◌, subst, append-nil}
+use Rattle.std.proofs.Common.{◌++◌, ◌∷◌, [], take, Err, refl, inl, inr, arith, sym, ap, ◌∙◌, subst, append-nil}
 use Rattle.std.proofs.lemmas.Bool.{true≢false}
 use Rattle.std.proofs.lemmas.List.{map_push}
 use Rattle.std.specs.Io.KnownBytes.{Appends}
-use Rattle.fj_script.specs.Script as session
-use Rattle.fj_script.specs.Seen.{IsReadingOf}
+use Rattle.fj_shell.specs.Shell.{fault_line}
+use Rattle.fj_shell.proofs.Pieces.{appends_nothing, length_push}
 use Rattle.fj_session.specs.Program.{AreAnswered, pieces_of, usage_line}
-use Rattle.fj_session.specs.Text.{answer_bytes, fault_line}
-use Rattle.fj_session.proofs.Pieces.{appends_nothing, length_push}
-use Rattle.fj_session.proofs.ReadBytes.{is_read}
+use Rattle.fj_session.specs.Text.{answer_bytes}
 use Rattle.fj_session.proofs.program.run.Goals as goal
 
 pub returns-then-not-are_run-clause-whole : goal.returns-then-not-are_run-clause-whole
 returns-then-not-are_run-clause-whole g c small =
-    let written = c.write.ensures.written small in
+    let written = c.write_text.ensures.written small in
     (usage_line ∷ [], inl ((λ run. true≢false (sym (c.are_run.ensures.1 run) ∙ c.if-not-are_run.true)), written.0, refl), written.1)
 
 pub returns-then-not-are_run-clause-write_failed : goal.returns-then-not-are_run-clause-write_failed
 returns-then-not-are_run-clause-write_failed g c five =
-    let failed = c.write.ensures.failed (omega (arith, five)) in (
+    let failed = c.write_text.ensures.failed (omega (arith, five)) in (
       failed.2,
       (
         [],
@@ -27,13 +25,13 @@ returns-then-not-are_run-clause-write_failed g c five =
       ),
     )
 
-pub returns-in-Ok-read_script-clause-write_failed : goal.returns-in-Ok-read_script-clause-write_failed
-returns-in-Ok-read_script-clause-write_failed g c five =
+pub returns-in-Ok-clause-write_failed : goal.returns-in-Ok-clause-write_failed
+returns-in-Ok-clause-write_failed g c five =
     let failed = c.answer_all.ensures.failed five in
-    let script = c.in-Ok-read_script.script in
+    let script = c.in-Ok.script in
+    let read = c.in-Ok.ensures.script in
     let answered = failed.1.0 in
-    let last = failed.1.1 in
-    let read = is_read c.in-Ok.bytes.items c.deref.result.now c.in-Ok.bytes.ok.0 c.deref.ensures.value c.in-Ok.ensures.taken c.in-Ok.ensures.short c.in-Ok.ensures.whole in (
+    let last = failed.1.1 in (
       failed.0,
       (
         pieces_of script.env answered,
@@ -41,11 +39,11 @@ returns-in-Ok-read_script-clause-write_failed g c five =
         inr (
           c.are_run.ensures.0 c.if-not-are_run.false,
           (
-            c.deref.result.now,
-            read,
+            read.0,
+            read.1,
             inr (
               script,
-              c.in-Ok-read_script.ensures,
+              read.2,
               (
                 answered ++ last ∷ [],
                 subst (λ k. AreAnswered script.env (take k script.asked) (answered ++ last ∷ [])) (sym (length_push answered last)) failed.1.2,
@@ -58,41 +56,22 @@ returns-in-Ok-read_script-clause-write_failed g c five =
       ),
     )
 
-pub returns-in-Ok-read_script-clause-memory : goal.returns-in-Ok-read_script-clause-memory
-returns-in-Ok-read_script-clause-memory g c six =
+pub returns-in-Ok-clause-memory : goal.returns-in-Ok-clause-memory
+returns-in-Ok-clause-memory g c six =
     let wanting = c.answer_all.ensures.memory six in
-    let script = c.in-Ok-read_script.script in
-    let run = c.are_run.ensures.0 c.if-not-are_run.false in
-    let read = is_read c.in-Ok.bytes.items c.deref.result.now c.in-Ok.bytes.ok.0 c.deref.ensures.value c.in-Ok.ensures.taken c.in-Ok.ensures.short c.in-Ok.ensures.whole in (
-      run,
-      inr (
-        pieces_of script.env wanting.0,
-        inr (
-          run,
-          (
-            c.deref.result.now,
-            read,
-            inr (script, c.in-Ok-read_script.ensures, (wanting.0, wanting.1, refl)),
-          ),
-        ),
-        wanting.2,
-      ),
+    let script = c.in-Ok.script in
+    let read = c.in-Ok.ensures.script in (
+      c.are_run.ensures.0 c.if-not-are_run.false,
+      inr (read.0, read.1, inr (pieces_of script.env wanting.0, (script, read.2, (wanting.0, wanting.1, refl)), wanting.2)),
     )
 
 pub returns-in-Err-At-clause-whole : goal.returns-in-Err-At-clause-whole
 returns-in-Err-At-clause-whole g c small =
     let written = c.write_fault.ensures.written small in
     let fault = c.in-Err-At.fault in
-    let read = is_read c.in-Ok.bytes.items c.deref.result.now c.in-Ok.bytes.ok.0 c.deref.ensures.value c.in-Ok.ensures.taken c.in-Ok.ensures.short c.in-Ok.ensures.whole in (
+    let read = c.in-Err-At.ensures.fault fault (ap Err c.in-Err-At.field-0-is) in (
       fault_line fault ∷ [],
-      inr (
-        c.are_run.ensures.0 c.if-not-are_run.false,
-        (
-          c.deref.result.now,
-          read,
-          inl (fault, subst (λ e. IsReadingOf (session.script c.deref.result.now) (Err e)) c.in-Err-At.field-0-is c.in-Err-At.ensures, written.0, refl),
-        ),
-      ),
+      inr (c.are_run.ensures.0 c.if-not-are_run.false, (read.0, read.1, inl (fault, read.2, written.0, refl))),
       subst (Appends (g.K.Sink.taken c.args.sink.now) (g.K.Sink.taken c.write_fault.new.sink)) (sym (append-nil (fault_line fault))) written.1,
     )
 
@@ -100,19 +79,24 @@ pub returns-in-Err-At-clause-write_failed : goal.returns-in-Err-At-clause-write_
 returns-in-Err-At-clause-write_failed g c five =
     let failed = c.write_fault.ensures.failed five in
     let fault = c.in-Err-At.fault in
-    let read = is_read c.in-Ok.bytes.items c.deref.result.now c.in-Ok.bytes.ok.0 c.deref.ensures.value c.in-Ok.ensures.taken c.in-Ok.ensures.short c.in-Ok.ensures.whole in (
+    let read = c.in-Err-At.ensures.fault fault (ap Err c.in-Err-At.field-0-is) in (
       failed.1,
       (
         [],
         fault_line fault,
-        inr (
-          c.are_run.ensures.0 c.if-not-are_run.false,
-          (
-            c.deref.result.now,
-            read,
-            inl (fault, subst (λ e. IsReadingOf (session.script c.deref.result.now) (Err e)) c.in-Err-At.field-0-is c.in-Err-At.ensures, refl),
-          ),
-        ),
+        inr (c.are_run.ensures.0 c.if-not-are_run.false, (read.0, read.1, inl (fault, read.2, refl))),
         (g.K.Sink.taken c.args.sink.now, appends_nothing (g.K.Sink.taken c.args.sink.now), failed.0),
       ),
     )
+
+pub returns-in-Err-At-clause-memory : goal.returns-in-Err-At-clause-memory
+returns-in-Err-At-clause-memory g c six =
+    let fault = c.in-Err-At.fault in
+    let read = c.in-Err-At.ensures.fault fault (ap Err c.in-Err-At.field-0-is) in
+    (c.are_run.ensures.0 c.if-not-are_run.false, inr (read.0, read.1, inl (c.write_fault.ensures.memory six)))
+
+pub returns-in-Err-Memory-clause-memory : goal.returns-in-Err-Memory-clause-memory
+returns-in-Err-Memory-clause-memory g c six = (
+  c.are_run.ensures.0 c.if-not-are_run.false,
+  elim (c.in-Err-Memory.ensures.memory (ap Err c.in-Err-Memory.field-0-is)) [ inl same ↦ inl (same, refl) | inr read ↦ inr (read.0, read.1, inl refl) ],
+)

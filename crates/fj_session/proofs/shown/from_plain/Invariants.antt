@@ -1,5 +1,5 @@
 use Rattle.std.proofs.Common.{◌≡◌, take}
-use Rattle.fj_session.specs.Named.{polynomials}
+use Rattle.fj_shell.specs.Named.{polynomials}
 use Rattle.fj_session.proofs.shown.from_plain.Given as goal
 
 -- the first polynomials are made

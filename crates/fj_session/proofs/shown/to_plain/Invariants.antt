@@ -1,7 +1,7 @@
 use Rattle.std.proofs.Common.{◌≡◌, All, take}
 use Rattle.fj_theory.specs.Plain.{polynomial}
 use Rattle.fj_theory.specs.Polynomial.{terms_falling}
-use Rattle.fj_session.specs.Named.{polynomials}
+use Rattle.fj_shell.specs.Named.{polynomials}
 use Rattle.fj_session.proofs.shown.to_plain.Given as goal
 
 -- the first polynomials are made

@@ -1,0 +1,5 @@
+//! Tests of whole sessions, from their bytes to what is written.
+#![tactic(auto)]
+
+#[cfg(test)]
+mod program;

@@ -1,0 +1,9 @@
+//! Tests of what is read and printed: expressions, the texts of values, and sessions with their first faults.
+#![tactic(auto)]
+
+#[cfg(test)]
+mod expressions;
+#[cfg(test)]
+mod printed;
+#[cfg(test)]
+mod sessions;
