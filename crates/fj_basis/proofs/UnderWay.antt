@@ -26,11 +26,6 @@ use Rattle.fj_basis.proofs.RowBounds.{sum-positive, term-positive}
 same_or_not : (j k : ℕ) → (j ≡ k) ⊎ (j ≢ k)
 same_or_not j k = ⊎_elim (λ e. inl e) (⊎_elim (λ l. inr (λ e. absurd (omega (arith, l, e)))) (λ l. inr (λ e. absurd (omega (arith, l, e))))) (cases_order j k)
 
--- One more step at the end.
-pub StepsTo-more : {S : Type 0} (Step : S → S → Type 0) (states : List S) (first last next : S) → StepsTo Step first states last → Step last next → StepsTo Step first (states ++ next ∷ []) next
-StepsTo-more Step [] first last next h s = (subst (λ x. Step x next) (sym h) s, refl)
-StepsTo-more Step (x ∷ states) first last next h s = (h.0, StepsTo-more Step states x last next h.1 s)
-
 module _ {F : Field} (L : IsField F) {key : List ℕ → List ℕ} (O : IsMonomialOrder key) where
   -- The terms of a polynomial have positive coefficients.
   pub terms-positive : {f : Polynomial} → IsPolynomial F f → All (λ t. 0 < coefficient f t.0) (terms_falling key f)
