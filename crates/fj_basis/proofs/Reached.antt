@@ -17,7 +17,8 @@ use Rattle.fj_groebner.proofs.Sugar.{StepsTo-IsWithinSugar}
 use Rattle.fj_basis.specs.Quotients.{IsUnderWay}
 use Rattle.fj_basis.proofs.DivisionState.{lead-none, lead-parts, some-lead}
 use Rattle.fj_basis.proofs.Height.{height, height-less}
-use Rattle.fj_basis.proofs.UnderWay.{StepsTo-more, IsUnderWay-step}
+use Rattle.fj_theory.proofs.Steps.{StepsTo-more}
+use Rattle.fj_basis.proofs.UnderWay.{IsUnderWay-step}
 
 -- The division of h leads to the state, with no sugar above the limit.
 pub record Reached (F : Field) (key : List ℕ → List ℕ) (G : List Sugared) (h : Sugared) (s : Division) : Type 0 where

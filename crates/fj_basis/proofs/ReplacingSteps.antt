@@ -21,7 +21,7 @@ use Rattle.fj_basis.specs.Finished.{AreMembersOfRun, IsHighReplacing, IsReplacem
 use Rattle.fj_basis.specs.Members.{IsRowWithin, IsTraced, sugared, sugared_members}
 use Rattle.fj_basis.proofs.NextMember.{sugar-rises}
 use Rattle.fj_basis.proofs.RowBounds.{DegreeAtMost-more, DegreeAtMost-subtracted, traced-AreRows}
-use Rattle.fj_basis.proofs.UnderWay.{StepsTo-more}
+use Rattle.fj_theory.proofs.Steps.{StepsTo-more}
 
 -- What a list that divides has to be.
 pub record AreDivisors (F : Field) (G : List Sugared) : Type 0 where

@@ -27,7 +27,7 @@ use Rattle.fj_basis.proofs.Gathered.{gathered_all}
 use Rattle.fj_basis.proofs.Leading.{AreGood, IsRun-AreGood, nonzero_members, state-good}
 use Rattle.fj_basis.proofs.NextMember.{made_monic-nonzero, next-IsTraced}
 use Rattle.fj_basis.proofs.PendingPairs.{ArePending-append, ArePending-drop, IsNext-first, order_of_pairs}
-use Rattle.fj_basis.proofs.UnderWay.{StepsTo-more}
+use Rattle.fj_theory.proofs.Steps.{StepsTo-more}
 
 -- The members of a state.
 pub members-of : {K R : Type 0} {F : Field} {key : List ℕ → List ℕ} {N : List Polynomial} {turns : ℕ} {s : Run K R} → IsAfter F key N turns s → AreMembersOfRun F key s.members.items

@@ -1,5 +1,5 @@
 -- What each step of a division keeps, and that its end is a division.
-use Rattle.std.proofs.Common.{◌≡◌, ◌≢◌, ◌⊎◌, inl, inr, ℕ, ◌<◌, IsTrue, List, [], ◌∷◌, ◌++◌, length, get_or, set, All, Option, Some, None, Greater, refl, sym, ap, ◌∙◌, subst, arith, ⊎_elim}
+use Rattle.std.proofs.Common.{◌≡◌, ◌≢◌, ◌⊎◌, inl, inr, ℕ, ◌<◌, IsTrue, List, [], length, get_or, set, All, Option, Some, None, Greater, refl, sym, ap, ◌∙◌, subst, arith, ⊎_elim}
 use Rattle.std.specs.FinMap.{empty}
 use Rattle.std.proofs.lemmas.List.{length-set, get_or-set_same, get_or-set_other}
 use Rattle.std.proofs.lemmas.Bool.{cases_order}
@@ -10,7 +10,6 @@ use Rattle.fj_theory.specs.MonomialOrder.{IsMonomialOrder, compare_by}
 use Rattle.fj_theory.specs.Polynomial.{Polynomial, IsPolynomial, coefficient, term, sum, terms_falling}
 use Rattle.fj_theory.specs.Ideal.{ArePolynomials}
 use Rattle.fj_theory.specs.Lead.{lead_exponents, lead_coefficient}
-use Rattle.fj_theory.specs.Steps.{StepsTo}
 use Rattle.fj_groebner.specs.Division.{Sugared, Division, polynomials_of, member_at, first_divisor, step_by, cancel_lead, move_lead, IsDivisionStep}
 use Rattle.fj_theory.proofs.Exponents.{IsExponents-minus, plus-minus, plus_comm}
 use Rattle.fj_theory.proofs.Field.{zero_below}
@@ -25,11 +24,6 @@ use Rattle.fj_basis.proofs.RowBounds.{sum-positive, term-positive}
 
 same_or_not : (j k : ℕ) → (j ≡ k) ⊎ (j ≢ k)
 same_or_not j k = ⊎_elim (λ e. inl e) (⊎_elim (λ l. inr (λ e. absurd (omega (arith, l, e)))) (λ l. inr (λ e. absurd (omega (arith, l, e))))) (cases_order j k)
-
--- One more step at the end.
-pub StepsTo-more : {S : Type 0} (Step : S → S → Type 0) (states : List S) (first last next : S) → StepsTo Step first states last → Step last next → StepsTo Step first (states ++ next ∷ []) next
-StepsTo-more Step [] first last next h s = (subst (λ x. Step x next) (sym h) s, refl)
-StepsTo-more Step (x ∷ states) first last next h s = (h.0, StepsTo-more Step states x last next h.1 s)
 
 module _ {F : Field} (L : IsField F) {key : List ℕ → List ℕ} (O : IsMonomialOrder key) where
   -- The terms of a polynomial have positive coefficients.

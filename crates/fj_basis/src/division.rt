@@ -8,7 +8,7 @@ ghost use Rattle.fj_theory.specs.Ideal.{ArePolynomials, list_combination};
 ghost use Rattle.fj_theory.specs.Polynomial.{IsPolynomial, lead, sum, terms_falling};
 ghost use Rattle.fj_groebner.specs.DegreeOrder.{IsDegreeOrder};
 ghost use Rattle.fj_theory.specs.Lead.{lead_exponents};
-ghost use Rattle.fj_groebner.specs.Division.{AreWithinSugars, DegreeAtMost, IsDivisionStep, IsHighDivision, IsLowDivision, cancel_lead, degree_limit, first_divisor, move_lead, polynomials_of, step_by};
+ghost use Rattle.fj_groebner.specs.Division.{AreWithinSugars, DegreeAtMost, IsDivisionStep, IsHighDivision, IsLowDivision, SubtractsHigh, cancel_lead, degree_limit, first_divisor, move_lead, polynomials_of, step_by};
 ghost use Rattle.fj_groebner.specs.Run.{given};
 ghost use Rattle.fj_poly.specs.Limit.{IsHighWhere};
 ghost use Rattle.fj_basis.specs.Quotients.{IsDivided, IsUnderWay};
@@ -219,7 +219,7 @@ pub(crate) fn divide_sugared<K: Coeff, O: Order, D: Divisor<K, O>>(
 /// chapter 2, section 3). So h is the sum of each quotient times its member, and the remainder.
 ///
 /// `High` exactly where a product that is subtracted has a term of total degree above 2^40, which never happens in an
-/// order that compares degrees first, as Grevlex and Grlex.
+/// order that compares degrees first, as Grevlex and Grlex (`fj_groebner::bases::degree_orders`).
 pub fn divide<K: Coeff, O: Order>(
     alloc: Global,
     h: &Poly<K, O>,
@@ -229,7 +229,7 @@ pub fn divide<K: Coeff, O: Order>(
     ensures value { IfOk result (λ r. IsDivided K.field O.key (map given list.now) (given h.now) r.0.items r.1) }
     ensures identity { IfOk result (λ r. h.now ≡ sum K.field (list_combination K.field r.0.items list.now) r.1) }
     ensures long { IfOk result (λ r. length r.0.items ≡ length list.now) }
-    ensures high { IsHighWhere (IsHighDivision K.field O.key (map given list.now) (given h.now)) result }
+    ensures high { IsHighWhere (SubtractsHigh K.field O.key (map given list.now) (given h.now)) result }
     ensures degree_order { IsDegreeOrder O.key → IsHighWhere ⊥ result }
 {
     look_over(list);

@@ -14,7 +14,7 @@ use Rattle.fj_algebra.specs.Elimination as ring_elimination
 use Rattle.fj_algebra.proofs.Lists.{All-map_back}
 use Rattle.fj_algebra.proofs.Pairs.{All-from_elements, contains_filter}
 use Rattle.fj_algebra.proofs.Elimination as ring_laws
-use Rattle.fj_theory.specs.MonomialOrder.{IsMonomialOrder, elim_key, grevlex_key}
+use Rattle.fj_theory.specs.MonomialOrder.{IsMonomialOrder, elim_key}
 use Rattle.fj_theory.specs.Polynomial.{Polynomial, IsPolynomial, coefficient, difference, term}
 use Rattle.fj_theory.specs.Ideal.{ArePolynomials, Member, multiples}
 use Rattle.fj_theory.specs.Colon.{IsMeet, IsColon}

@@ -1,5 +1,5 @@
 -- Where a division is high by its sugar: exactly where it subtracts a product with a term above the limit.
-use Rattle.std.proofs.Common.{◌≡◌, ◌≢◌, ℕ, ◌+◌, ◌<◌, ◌≤◌, List, [], ◌∷◌, ◌++◌, length, map, All, Option, Some, None, max, unwrap_or, refl, sym, ap, ◌∙◌, subst, arith}
+use Rattle.std.proofs.Common.{◌≡◌, ◌≢◌, ℕ, ◌+◌, ◌<◌, ◌≤◌, List, [], ◌∷◌, ◌++◌, map, All, Option, Some, None, unwrap_or, refl, sym, ap, ◌∙◌, subst, arith}
 use Rattle.std.specs.FinMap.{empty}
 use native.Mathlib.Decide.{dec_le}
 use Rattle.std.proofs.lemmas.List.Elements.{All-map}
@@ -7,7 +7,7 @@ use Rattle.fj_coeff.specs.Field.{Field, IsField}
 use Rattle.fj_algebra.proofs.Lists.{All-map_back}
 use Rattle.fj_theory.specs.Exponents.{IsExponents, total, minus}
 use Rattle.fj_theory.specs.MonomialOrder.{IsMonomialOrder}
-use Rattle.fj_theory.specs.Polynomial.{Polynomial, IsPolynomial, coefficient, degree, term, product}
+use Rattle.fj_theory.specs.Polynomial.{Polynomial, IsPolynomial, degree, product}
 use Rattle.fj_theory.specs.Ideal.{ArePolynomials}
 use Rattle.fj_theory.specs.Lead.{lead_exponents, lead_coefficient}
 use Rattle.fj_theory.specs.Steps.{StepsTo}

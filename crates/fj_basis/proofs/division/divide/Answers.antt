@@ -1,14 +1,16 @@
-use Rattle.std.proofs.Common.{◌≡◌, ◌≢◌, ℕ, map, length, All, ap, ap₂, ◌∙◌, sym, subst, arith}
+use Rattle.std.proofs.Common.{◌≡◌, ◌≢◌, ◌≤◌, ℕ, map, length, All, ap, ap₂, ◌∙◌, sym, subst, arith}
 use Rattle.std.specs.FinMap.{empty}
 use Rattle.std.proofs.lemmas.Result.{err_from_is_err_and}
 use Rattle.std.proofs.lemmas.List.{length-map}
 use Rattle.std.proofs.lemmas.List.Elements.{All-map, All-weaker}
+use Rattle.fj_coeff.specs.Field.{Field, IsField}
 use Rattle.fj_theory.specs.Ideal.{ArePolynomials, list_combination}
 use Rattle.fj_theory.specs.Polynomial.{Polynomial, IsPolynomial, sum}
 use Rattle.fj_groebner.specs.Run.{given}
-use Rattle.fj_groebner.specs.Division.{DegreeAtMost, IsHighDivision, IsLowDivision}
+use Rattle.fj_groebner.specs.Division.{DegreeAtMost, IsHighDivision, IsLowDivision, degree_limit}
 use Rattle.fj_groebner.proofs.DegreeOrder.{polynomials_of-given, IsHighDivision-degree}
 use Rattle.fj_groebner.proofs.Division.{IsLowDivision-IsHighDivision, division_identity, IsDivision-length}
+use Rattle.fj_groebner.proofs.HighDivision.{IsHighDivision-SubtractsHigh, SubtractsHigh-IsHighDivision}
 use Rattle.fj_groebner.proofs.Sugar.{given-DegreeAtMost}
 use Rattle.fj_basis.proofs.Faults.{handed_on}
 use Rattle.fj_basis.proofs.division.divide.Goals as goal
@@ -16,6 +18,9 @@ use Rattle.fj_basis.proofs.division.divide.Goals as goal
 given_is : (f : Polynomial) (n : ℕ) → n ≡ (given f).sugar → record { polynomial = f; sugar = n } ≡ given f
 unfolding given
 given_is f n e = λ i. record { polynomial = f; sugar = e i }
+
+low_degree : {F : Field} → IsField F → {f : Polynomial} → IsPolynomial F f → (given f).sugar ≤ degree_limit → DegreeAtMost degree_limit f
+low_degree L {f} P low = let own = given-DegreeAtMost L P in record { within = λ a p. let b = own.within a p in omega (arith, b, low) }
 
 pub divide_sugared-requires-clause-polynomials : goal.divide_sugared-requires-clause-polynomials
 divide_sugared-requires-clause-polynomials g c = subst (ArePolynomials g.K.Coeff.field) (sym (polynomials_of-given c.args.list.now)) c.look_over.ensures
@@ -37,7 +42,9 @@ pub returns-in_err-division-clause-high : goal.returns-in_err-division-clause-hi
 returns-in_err-division-clause-high g c =
     let p = err_from_is_err_and c.from_residual.result c.from_residual.ensures.1 in
     handed_on (Unit {0}) _ _ _ _ p.0 c.in_err-division.field-0.0 p.1 p.2
-    (λ high. subst (IsHighDivision g.K.Coeff.field g.O.Order.key (map given c.args.list.now)) (given_is c.args.h.now c.sugar_of.result c.sugar_of.ensures.value) high)
+    (λ high. IsHighDivision-SubtractsHigh g.met.O.Order.monomial_order g.met.K.Coeff.lawful c.args.list.now c.look_over.ensures c.requires c.sugar_of.ensures.polynomial
+    (low_degree g.met.K.Coeff.lawful c.sugar_of.ensures.polynomial (omega (arith, c.sugar_of.ensures.value, c.sugar_of.ensures.low)))
+    (subst (IsHighDivision g.K.Coeff.field g.O.Order.key (map given c.args.list.now)) (given_is c.args.h.now c.sugar_of.result c.sugar_of.ensures.value) high))
     c.in_err-division.ensures.high
 
 pub returns-in_err-division-clause-degree_order : goal.returns-in_err-division-clause-degree_order
@@ -77,7 +84,8 @@ returns-clause-long g c =
     ∙ length-map c.args.list.now given
 
 pub returns-clause-high : goal.returns-clause-high
-returns-clause-high g c =
+returns-clause-high g c = λ subtracts.
     IsLowDivision-IsHighDivision
     (subst (λ h. IsLowDivision g.K.Coeff.field g.O.Order.key (map given c.args.list.now) h c.in_ok-division.division) (given_is c.args.h.now c.sugar_of.result c.sugar_of.ensures.value)
     c.in_ok-division.ensures.value)
+    (SubtractsHigh-IsHighDivision g.met.O.Order.monomial_order g.met.K.Coeff.lawful c.args.list.now c.look_over.ensures c.requires c.sugar_of.ensures.polynomial subtracts)
