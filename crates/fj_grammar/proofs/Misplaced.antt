@@ -12,7 +12,7 @@ use Rattle.fj_grammar.specs.Owed as owed
 use Rattle.fj_grammar.specs.Owed.{AreAlike, IsMisplaced, IsUnfinished, IsWhole, NeedKeyword}
 use Rattle.fj_grammar.specs.Wrong.{BeginsLater}
 use Rattle.fj_grammar.proofs.Wanted.{MayEnd, Want, Beginning, Variables, run, run_behind, run_front, step}
-use Rattle.fj_grammar.proofs.WantedGrammar.{IsFull, MayCome, arity_has_come, come, comes_front, full_comes, large_has_come, many_has_come, ring_full, statement_full, variables_run}
+use Rattle.fj_grammar.proofs.WantedGrammar.{IsFull, MayCome, arity_has_come, come, comes_front, large_has_come, many_has_come, ring_full, statement_full, variables_run}
 use Rattle.fj_grammar.proofs.WantedNames.{ArePlain, needs_keyword, same_name, same_number}
 
 no_ring_there : (ts : List Token) (ws : List Want) → run (Word (codes "ring") ∷ ts) (Beginning true ∷ []) ≡ Some ws → ⊥

@@ -10,7 +10,6 @@ use Rattle.fj_script.specs.declared.statement.Keyword.{Keyword}
 use Rattle.fj_script.specs.declared.statement.Keyword.TheVariants as keywords
 use Rattle.fj_script.specs.Items.{comma, equals, slash}
 use Rattle.fj_script.specs.Question.{ask_of}
-use Rattle.fj_script.specs.Session.{Session}
 use Rattle.fj_script.specs.Statement.{keyword_of, order_of}
 
 -- A statement, where there is a ring or not; a name; a number; a sign; the word of an order and of a question; and an atom.

@@ -1,23 +1,15 @@
 -- What is in the grammar is what is wanted, and so are tokens up to something that is too large, too many or too few.
-use Rattle.std.proofs.Common.{◌≡◌, ℕ, zero, suc, ◌==◌, Bool, true, false, cond, List, [], ◌∷◌, ◌++◌, codes, Option, Some, None, refl, sym, ap, ◌∙◌, subst, inl, inr, ◌⊎◌}
-use Rattle.std.specs.Option.{is_some, option_and_then, option_map, option_map_or}
+use Rattle.std.proofs.Common.{◌≡◌, ℕ, true, false, cond, List, [], ◌∷◌, ◌++◌, Option, Some, refl, sym, ap, ◌∙◌, subst, inl, inr, ◌⊎◌}
+use Rattle.std.specs.Option.{option_and_then}
 use Rattle.fj_coeff.specs.Field.{Field}
 use Rattle.fj_theory.specs.Polynomial.{Polynomial}
 use Rattle.fj_text.specs.declared.scope.Meaning.{Meaning}
 use Rattle.fj_text.specs.Grammar as expressions
 use Rattle.fj_text.specs.Grammar.{IsAtom, IsExpression, IsFactor, IsTerm}
 use Rattle.fj_text.specs.State.{is_the_sign}
-use Rattle.fj_text.specs.Token.{Token, Word, Number, Sign, BadByte, caret, closing, minus, opening, plus, star}
-use Rattle.fj_script.specs.declared.ask.Ask.{Ask}
-use Rattle.fj_script.specs.declared.ask.Ask.TheVariants as asks
-use Rattle.fj_script.specs.declared.ask.OneIdeal.TheVariants as ones
-use Rattle.fj_script.specs.declared.ask.TwoIdeals.TheVariants as twos
-use Rattle.fj_script.specs.declared.ask.Frobenius.TheVariants as frobenius
-use Rattle.fj_script.specs.declared.ask.TestIdeal.TheVariants as tests
+use Rattle.fj_text.specs.Token.{Token, Word, Number, Sign, BadByte, caret, closing, minus, plus, star}
 use Rattle.fj_script.specs.declared.question.Question.{Question}
-use Rattle.fj_script.specs.declared.statement.Keyword.{Keyword}
-use Rattle.fj_script.specs.declared.statement.Keyword.TheVariants as keywords
-use Rattle.fj_script.specs.Items.{comma, equals, slash}
+use Rattle.fj_script.specs.Items.{comma}
 use Rattle.fj_script.specs.Question as question
 use Rattle.fj_script.specs.Session.{Session, Terms}
 use Rattle.fj_script.specs.Statement as statements
@@ -27,7 +19,7 @@ use Rattle.fj_grammar.specs.Large as large
 use Rattle.fj_grammar.specs.Large.{HasLarge, IsLargeAtom, IsLargeExpression, IsLargeFactor, IsLargeIn, IsLargeTerm}
 use Rattle.fj_grammar.specs.Many as rank
 use Rattle.fj_grammar.specs.Many.{AreTooMany, HaveWrongArity}
-use Rattle.fj_grammar.proofs.Wanted.{MayEnd, Want, Beginning, Coordinates, Denominator, Factors, Generators, Mark, Name, Negative, Numeral, Operand, OrderWord, PerhapsName, Power, QuestionWord, Summands, Variables, a_coordinate, a_term, an_expression, ended, missing, run, run_behind, step, wants_of_ask, wants_of_keyword}
+use Rattle.fj_grammar.proofs.Wanted.{MayEnd, Want, Beginning, Coordinates, Denominator, Factors, Generators, Mark, Name, Negative, Numeral, Operand, Power, QuestionWord, Summands, Variables, a_coordinate, a_term, an_expression, ended, missing, run, run_behind, step}
 
 -- Tokens may come, and then this is wanted, or a power and this.
 record Reach (ts : List Token) (vs ws : List Want) : Type 0 where

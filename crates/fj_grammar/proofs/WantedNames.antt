@@ -1,12 +1,12 @@
 -- Where one number may come any may, and where one name may come any word may.
-use Rattle.std.proofs.Common.{◌≡◌, ℕ, ◌==◌, Bool, true, false, cond, List, [], ◌∷◌, ◌++◌, codes, Option, Some, None, refl, sym, ap, ◌∙◌, subst, append_assoc, inl, inr, ◌⊎◌}
+use Rattle.std.proofs.Common.{◌≡◌, ℕ, ◌==◌, Bool, true, false, cond, List, [], ◌∷◌, codes, Option, Some, None, refl, sym, ap, ◌∙◌, subst, inl, inr, ◌⊎◌}
 use Rattle.std.specs.Option.{is_some, option_and_then, option_map, option_map_or}
-use Rattle.fj_text.specs.Token.{Token, Word, Number, Sign, BadByte, caret, closing, minus, opening, plus, star}
+use Rattle.fj_text.specs.Token.{Token, Word, Number, Sign, BadByte, caret, minus, opening, plus, star}
 use Rattle.fj_script.specs.declared.ask.Ask.{Ask}
 use Rattle.fj_script.specs.declared.ask.Ask.TheVariants as asks
 use Rattle.fj_script.specs.declared.statement.Keyword.{Keyword}
 use Rattle.fj_script.specs.declared.statement.Keyword.TheVariants as keywords
-use Rattle.fj_script.specs.Items.{comma, equals, slash}
+use Rattle.fj_script.specs.Items.{comma, slash}
 use Rattle.fj_script.specs.Question.{ask_of}
 use Rattle.fj_script.specs.Statement.{keyword_of, order_of}
 use Rattle.fj_grammar.specs.Owed as owed

@@ -1,5 +1,5 @@
 -- Each rule of sessions reads what is wanted, and reports Syntax only at a token that may not stand there.
-use Rattle.std.proofs.Common.{◌≡◌, ℕ, zero, suc, ◌+◌, ◌%◌, ◌^◌, ◌<◌, ◌≤◌, Bool, true, false, cond, ◌||◌, leb, ltb, eqb, List, [], ◌∷◌, ◌++◌, length, map, Option, Some, None, Result, Ok, Err, refl, sym, ap, ◌∙◌, subst, arith, append_assoc, inl, inr, ◌⊎◌}
+use Rattle.std.proofs.Common.{◌≡◌, ℕ, zero, suc, ◌+◌, ◌%◌, ◌^◌, ◌<◌, ◌≤◌, Bool, true, false, cond, ◌||◌, leb, ltb, eqb, List, [], ◌∷◌, ◌++◌, length, Option, Some, None, Result, Ok, Err, refl, sym, ap, ◌∙◌, subst, arith, append_assoc, inl, inr, ◌⊎◌}
 use Rattle.std.specs.Option.{is_some, option_and_then, option_map, option_map_or}
 use Rattle.std.proofs.lemmas.List.{append-nil, map-append}
 use Rattle.fj_coeff.specs.Field.{Field, is_prime}
@@ -13,7 +13,7 @@ use Rattle.fj_text.specs.declared.scope.Meaning.{Meaning}
 use Rattle.fj_text.specs.declared.scope.Meaning.TheVariants as meanings
 use Rattle.fj_text.specs.Expression as text
 use Rattle.fj_text.specs.State.{State, after, after_sign, blame, end_of, is_the_sign, next, unexpected}
-use Rattle.fj_text.specs.Token.{Token, Word, Number, Sign, BadByte, Placed, caret, closing, minus, opening, plus, star}
+use Rattle.fj_text.specs.Token.{Token, Word, Number, Sign, BadByte, Placed, closing, minus, opening, plus, star}
 use Rattle.fj_text.specs.Word.{place_of}
 use Rattle.fj_script.specs.declared.ask.Ask.{Ask}
 use Rattle.fj_script.specs.declared.ask.Ask.TheVariants as asks
@@ -26,7 +26,7 @@ use Rattle.fj_script.specs.declared.statement.Keyword.TheVariants as keywords
 use Rattle.fj_script.specs.declared.value.Kind.{Kind}
 use Rattle.fj_script.specs.declared.value.Kind.TheVariants as values
 use Rattle.fj_script.specs.Declaration as declaration
-use Rattle.fj_script.specs.Items.{at_end, comma, enclosed, equals, listed, more, narrow, number, number_of, sign, slash, taking, word, word_of}
+use Rattle.fj_script.specs.Items.{at_end, comma, enclosed, equals, listed, more, narrow, number, number_of, sign, taking, word, word_of}
 use Rattle.fj_script.specs.LineFault.{Answer, ◌>>=◌, fault_at, fault_of, kind_of, not_here}
 use Rattle.fj_script.specs.Names as names
 use Rattle.fj_script.specs.Numbers as numbers

@@ -1,16 +1,15 @@
 -- The rank of kinds at the place of a fault: of two that could stand there the higher one is reported. And each kind has its cause
 -- at its place.
-use Rattle.std.specs.Prelude.{◌≡◌, ◌≢◌, ℕ, zero, ◌+◌, ◌-◌, ◌^◌, ◌<◌, ◌≤◌, ◌⊎◌, List, [], ◌∷◌, ◌++◌, length, map, take, All, Contains, Option, None, Err, codes}
-use Rattle.fj_text.specs.Token.{Token, Word, Number, Sign, BadByte, Placed, opening, closing, tokens_from}
+use Rattle.std.specs.Prelude.{◌≡◌, ℕ, zero, ◌+◌, ◌-◌, ◌^◌, ◌<◌, ◌≤◌, ◌⊎◌, List, [], ◌∷◌, ◌++◌, length, map, take, Contains, Option, None, Err, codes}
+use Rattle.fj_text.specs.Token.{Token, Word, Number, BadByte, Placed, tokens_from}
 use Rattle.fj_script.specs.declared.fault.Fault.{Fault}
 use Rattle.fj_script.specs.declared.fault.FaultKind.{FaultKind}
 use Rattle.fj_script.specs.declared.fault.FaultKind.TheVariants as kinds
-use Rattle.fj_script.specs.Items.{comma, equals}
 use Rattle.fj_script.specs.Script.{lines, script}
-use Rattle.fj_script.specs.Session.{Session, Terms, terms_in}
+use Rattle.fj_script.specs.Session.{Session}
 use Rattle.fj_grammar.specs.Beginning.{CanGoOnWith, IsDoomedWith, MakeSession}
 use Rattle.fj_grammar.specs.FirstFault.{HasStatements, line_at, tokens_before}
-use Rattle.fj_grammar.specs.Grammar.{AreListed, HasTerms, IsCoordinate, IsNew, IsSession, tokens_of}
+use Rattle.fj_grammar.specs.Grammar.{IsSession, tokens_of}
 use Rattle.fj_grammar.specs.Large.{HasLarge}
 use Rattle.fj_grammar.specs.Many.{AreTooMany, HaveWrongArity}
 use Rattle.fj_grammar.specs.Owed.{IsLineEnd, IsMisplaced, IsUnfinished}
