@@ -3,7 +3,7 @@ use Rattle.std.proofs.Common.{◌≡◌, ℕ, zero, suc, ◌<◌, List, [], ◌�
 use Rattle.std.proofs.lemmas.Option.{get_or_from_slice_get, slice_get-get_or}
 use Rattle.fj_theory.specs.Polynomial.{Polynomial}
 use Rattle.fj_poly.specs.Limit.{IsHigh}
-use Rattle.fj_session.specs.Lists.{AreLow}
+use Rattle.fj_ideal.specs.Lists.{AreLow}
 
 pub low_from : (L : List Polynomial) → (Any IsHigh L → ⊥) → AreLow L
 low_from L none k d h high = none (k, get_or L k d, h, get_or_from_slice_get L k (get_or L k d) (get_or L k d) (slice_get-get_or L k d h), high)
