@@ -21,7 +21,6 @@ use Rattle.fj_script.specs.Session.{Terms, Value, Poly, Ideal}
 use Rattle.fj_script.proofs.Accepted.{accepted_sound}
 use Rattle.fj_script.proofs.AcceptedArguments.{IsSoundQuestion, NamesIdeal, NamesPoly, is_ideal, is_poly}
 use Rattle.fj_script.proofs.AcceptedDeclarations.{AreSound, IsSoundAsked, IsSoundValue}
-use Rattle.fj_session.specs.Answer.{IsForParts}
 use Rattle.fj_session.specs.Asked.{AreOfOneSession, IsIdealAt, IsPartsQuestion, IsPolyAt}
 
 -- The values of a ring are over GF(p), in its variables.
@@ -132,7 +131,7 @@ values_known env asked one = (known env asked one).values
 pub question_known : (env : Env) (asked : Asked) (q : Question) → AreOfOneSession env asked → asked.question ≡ q → IsSoundQuestion env.p (seen_values env.values) q
 question_known env asked q one is = subst (IsSoundQuestion env.p (seen_values env.values)) is (known env asked one).about.question
 
-pub parts_question : (env : Env) (asked : Asked) (e place : ℕ) → AreOfOneSession env asked → IsForParts asked.question e place → IsPartsQuestion env e place
+pub parts_question : (env : Env) (asked : Asked) (e place : ℕ) → AreOfOneSession env asked → asked.question ≡ questions.Parts e place → IsPartsQuestion env e place
 parts_question env asked e place one is =
     let q = question_known env asked (questions.Parts e place) one is in
     let K = known env asked one in

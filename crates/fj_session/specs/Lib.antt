@@ -1,8 +1,8 @@
 pub mod Asked
 pub mod Named
-pub mod Lists
+pub mod Meaning
+pub mod Ideals
 pub mod Statement
-pub mod Stop
 pub mod Answer
 pub mod AnswerLaws
 pub mod Outcome
