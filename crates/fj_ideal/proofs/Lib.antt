@@ -1,2 +1,5 @@
 pub mod ReducedBasis
+pub mod Lists
+pub mod Stops
+pub mod HighProducts
 pub mod Products

@@ -1,6 +1,6 @@
 ghost use Rattle.std.specs.Prelude.{◌≡◌, ◌<◌, ◌↔◌, [], All, IfOk, IsTrue, length};
 ghost use Rattle.std.specs.FinMap.{empty};
-ghost use Rattle.fj_theory.specs.Evaluation.{IsPoint, IsZeroOf, value};
+ghost use Rattle.fj_theory.specs.Evaluation.{IsZeroOf, value};
 ghost use Rattle.fj_theory.specs.Exponents.{origin};
 ghost use Rattle.fj_theory.specs.Ideal.{ArePolynomials, SameIdeal, Member};
 ghost use Rattle.fj_theory.specs.Polynomial.{term};
@@ -8,13 +8,15 @@ ghost use Rattle.fj_groebner.specs.ReducedBasis.{IsReducedBasis};
 ghost use Rattle.fj_groebner.specs.Run.{TooHigh, Unfinished};
 ghost use Rattle.fj_plain.specs.Holds.{Holds};
 ghost use Rattle.fj_plain.specs.OrderRow.{order_in_row};
+ghost use Rattle.fj_plain.specs.declared.order_name.OrderName.TheVariants as orders;
 ghost use Rattle.fj_basis.specs.Basis.{IsCertificateOf, IsMadeOf, cofactor};
 ghost use Rattle.fj_basis.specs.Outcome.{IsStopWhere};
 ghost use Rattle.fj_ideal.specs.Ideal.{IsIdeal, IsIdealOf, basis_of};
-ghost use Rattle.fj_ideal.specs.Stop.{StopsAsRun};
+ghost use Rattle.fj_ideal.specs.Lists.{NoProduct, RunFor};
+ghost use Rattle.fj_ideal.specs.Stop.{StopsExactlyWith};
 
 use fj_basis::types::Basis;
-use fj_basis::{Stop, basis, copy_list};
+use fj_basis::{Stop, basis, copy_list, look_over};
 use fj_coeff::Coeff;
 use fj_mono::{Grevlex, Order};
 use fj_plain::Cert;
@@ -46,25 +48,22 @@ impl<K: Coeff> Ideal<K> {
     /// The ideal of a list, by Buchberger's algorithm with at most `pairs` turns.
     ///
     /// `Pairs` exactly where that many turns were made and pairs are pending, `High` exactly where a sugar above 2^40 arises
-    /// within these turns or, where no pair is then pending, in finishing. Both keep the list. `Product` never comes.
+    /// within these turns or, where no pair is then pending, in finishing. Both keep the list, its terms falling in Grevlex.
+    /// `Product` never comes.
     pub fn of(alloc: Global, list: &[GPoly<K>], pairs: u64) -> Result<Ideal<K>, Stop>
         ensures value { IfOk result (IsIdealOf K.field list.now) }
-        ensures stop { StopsAsRun K.field list.now pairs result }
+        ensures stop { StopsExactlyWith K.field (RunFor orders.Grevlex (λ L. L ≡ list.now)) NoProduct pairs result }
     {
         let given = copy_list(alloc, list)?;
         Ideal::of_owned(alloc, given, pairs)
     }
 
-    // The ideal of a list that it takes.
-    pub(crate) fn of_owned(
-        alloc: Global,
-        given: Vec<GPoly<K>>,
-        pairs: u64,
-    ) -> Result<Ideal<K>, Stop>
-        requires { ArePolynomials K.field given.items }
+    /// The ideal of a list that it takes: as `of`, without a copy of the list.
+    pub fn of_owned(alloc: Global, given: Vec<GPoly<K>>, pairs: u64) -> Result<Ideal<K>, Stop>
         ensures value { IfOk result (IsIdealOf K.field given.items) }
-        ensures stop { StopsAsRun K.field given.items pairs result }
+        ensures stop { StopsExactlyWith K.field (RunFor orders.Grevlex (λ L. L ≡ given.items)) NoProduct pairs result }
     {
+        look_over(&given);
         let basis = basis(alloc, &given, pairs)?;
         Ok(Ideal { given, basis })
     }
@@ -134,8 +133,10 @@ impl<K: Coeff> Ideal<K> {
     /// that the ideal was made of.
     pub fn vanishes_at(&self, at: &Point<K>) -> bool
         ensures members { IsTrue result ↔ IsZeroOf K.field self.now.members at.now }
-        ensures given { IsPoint K.field at.now → (IsTrue result ↔ IsZeroOf K.field self.now.given at.now) }
+        ensures given { IsTrue result ↔ IsZeroOf K.field self.now.given at.now }
     {
+        // The coordinates are elements of the field.
+        let _ = at.len();
         self.members().iter().all(|g| is_zero_at(g, at))
     }
 
@@ -143,12 +144,13 @@ impl<K: Coeff> Ideal<K> {
     /// members.
     ///
     /// `Pairs` exactly where that many turns were made and pairs are pending, `High` exactly where a sugar above 2^40 arises
-    /// within these turns or, where no pair is then pending, in finishing. Both keep the members. `Product` never comes.
+    /// within these turns or, where no pair is then pending, in finishing. Both keep the members, their terms falling in O.
+    /// `Product` never comes.
     pub fn in_order<O: Order>(&self, alloc: Global, pairs: u64) -> Result<Basis<K, O>, Stop>
         ensures reduced { IfOk result (λ b. IsReducedBasis K.field O.key self.now.given b.members) }
         ensures made { IfOk result (IsMadeOf K.field self.now.members) }
         ensures long { IfOk result (λ b. length b.up ≡ length self.now.members) }
-        ensures stop { IsStopWhere (Unfinished K.field O.key self.now.members pairs) (TooHigh K.field O.key self.now.members pairs) (order_in_row O.ROW) self.now.members result }
+        ensures stop { IsStopWhere K.field (Unfinished K.field O.key self.now.members pairs) (TooHigh K.field O.key self.now.members pairs) (order_in_row O.ROW) O.key self.now.members result }
     {
         let members = self.members();
         let mut list = Vec::with_capacity(alloc, members.len())?;

@@ -6,3 +6,4 @@ mod membership;
 mod operations;
 
 pub use ideal::Ideal;
+pub use operations::kept_pair;

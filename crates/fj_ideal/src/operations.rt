@@ -1,35 +1,34 @@
 ghost use Rattle.std.specs.Prelude.{◌≡◌, ◌++◌, ◌∷◌, [], IfOk};
-ghost use Rattle.std.specs.List.{Any};
 ghost use Rattle.fj_theory.specs.Ideal.{ArePolynomials, SameIdeal, products};
 ghost use Rattle.fj_theory.specs.Polynomial.{IsPolynomial, product};
+ghost use Rattle.fj_theory.specs.MonomialOrder.{grevlex_key};
+ghost use Rattle.fj_plain.specs.declared.order_name.OrderName.TheVariants as orders;
 ghost use Rattle.fj_poly.specs.Limit.{IsHigh};
-ghost use Rattle.fj_plain.specs.OrderRow.{order_in_row};
 ghost use Rattle.fj_basis.specs.Outcome.{IsKeptOf};
 ghost use Rattle.fj_ideal.specs.Ideal.{IsIdealOf};
-ghost use Rattle.fj_ideal.specs.Stop.{IsHighPair, IsProductWhere, StopsAsProducts, StopsAsRun};
+ghost use Rattle.fj_ideal.specs.Lists.{AreLow, IsHighPair, IsProductList, IsSumList, NoList, NoProduct, RunFor};
+ghost use Rattle.fj_ideal.specs.Stop.{StopsExactlyWith, StopsOnlyWith};
 
 use crate::ideal::Ideal;
-use fj_basis::{Stop, copy_list};
+use fj_basis::{Stop, copy_list, kept};
 use fj_coeff::Coeff;
-use fj_plain::{Kept, OrderName, PlainList};
+use fj_plain::Kept;
 use fj_poly::{GPoly, PolyFault};
 use std::alloc::{AllocError, Global};
 
-// Two polynomials, as a stop keeps them.
-fn kept_pair<K: Coeff>(alloc: Global, g: &GPoly<K>, h: &GPoly<K>) -> Result<Kept, AllocError>
-    ensures { IfOk result (IsKeptOf (order_in_row 2) (g.now ∷ h.now ∷ [])) }
+/// The two polynomials of a product that is too high, as a stop keeps them.
+pub fn kept_pair<K: Coeff>(alloc: Global, g: &GPoly<K>, h: &GPoly<K>) -> Result<Kept, AllocError>
+    ensures { IfOk result (IsKeptOf K.field orders.Grevlex grevlex_key (g.now ∷ h.now ∷ [])) }
 {
-    Ok(Kept {
-        order: OrderName::Grevlex,
-        list: PlainList::of(vec![in alloc; g.to_plain(alloc)?, h.to_plain(alloc)?]?),
-    })
+    kept(alloc, &vec![in alloc; g.copy(alloc)?, h.copy(alloc)?]?)
 }
 
 // The product of two polynomials.
 fn times<K: Coeff>(alloc: Global, g: &GPoly<K>, h: &GPoly<K>) -> Result<GPoly<K>, Stop>
     ensures value { IfOk result (λ p. p ≡ product K.field g.now h.now) }
     ensures polynomial { IfOk result (IsPolynomial K.field) }
-    ensures stop { IsProductWhere (IsHigh (product K.field g.now h.now)) (λ k. IsHigh (product K.field g.now h.now) × IsKeptOf (order_in_row 2) (g.now ∷ h.now ∷ []) k) result }
+    ensures low { IfOk result (λ p. IsHigh p → ⊥) }
+    ensures stop { StopsOnlyWith K.field NoList (IsHighPair K.field (g.now ∷ []) (h.now ∷ [])) 0 result }
 {
     match g.mul(alloc, h) {
         Ok(product) => Ok(product),
@@ -46,7 +45,8 @@ fn products_of<K: Coeff>(
 ) -> Result<Vec<GPoly<K>>, Stop>
     ensures value { IfOk result (λ v. v.items ≡ products K.field list.now others.now) }
     ensures polynomials { IfOk result (λ v. ArePolynomials K.field v.items) }
-    ensures stop { IsProductWhere (Any IsHigh (products K.field list.now others.now)) (IsHighPair K.field list.now others.now) result }
+    ensures low { IfOk result (λ v. AreLow v.items) }
+    ensures stop { StopsOnlyWith K.field NoList (IsHighPair K.field list.now others.now) 0 result }
 {
     let mut products = Vec::with_capacity(alloc, list.len().saturating_mul(others.len()))?;
     for g in list {
@@ -66,7 +66,7 @@ impl<K: Coeff> Ideal<K> {
     pub fn sum(&self, alloc: Global, o: &Ideal<K>, pairs: u64) -> Result<Ideal<K>, Stop>
         ensures value { IfOk result (IsIdealOf K.field (self.now.members ++ o.now.members)) }
         ensures ideal { IfOk result (λ J. SameIdeal K.field (self.now.given ++ o.now.given) J.given) }
-        ensures stop { StopsAsRun K.field (self.now.members ++ o.now.members) pairs result }
+        ensures stop { StopsExactlyWith K.field (RunFor orders.Grevlex (IsSumList self.now.members o.now.members)) NoProduct pairs result }
     {
         let mut list = copy_list(alloc, self.members())?;
         list.append(&mut copy_list(alloc, o.members())?)?;
@@ -82,7 +82,7 @@ impl<K: Coeff> Ideal<K> {
     pub fn product(&self, alloc: Global, o: &Ideal<K>, pairs: u64) -> Result<Ideal<K>, Stop>
         ensures value { IfOk result (IsIdealOf K.field (products K.field self.now.members o.now.members)) }
         ensures ideal { IfOk result (λ J. SameIdeal K.field (products K.field self.now.given o.now.given) J.given) }
-        ensures stop { StopsAsProducts K.field self.now.members o.now.members pairs result }
+        ensures stop { StopsExactlyWith K.field (RunFor orders.Grevlex (IsProductList K.field self.now.members o.now.members)) (IsHighPair K.field self.now.members o.now.members) pairs result }
     {
         let list = products_of(alloc, self.members(), o.members())?;
         Ideal::of_owned(alloc, list, pairs)

@@ -11,6 +11,8 @@ mod fields;
 #[cfg(test)]
 mod fractions;
 #[cfg(test)]
+mod frobenius;
+#[cfg(test)]
 mod ideals;
 #[cfg(test)]
 mod monomials;

@@ -6,7 +6,7 @@ use Rattle.fj_coeff.specs.Field.{Field, IsField}
 use Rattle.fj_coeff.specs.PrimeField.{prime_field}
 use Rattle.fj_coeff.specs.PrimeFieldLaws.{IsField-prime_field}
 use Rattle.fj_theory.specs.Ideal.{ArePolynomials, SameIdeal}
-use Rattle.fj_theory.specs.Plain.{polynomial}
+use Rattle.fj_theory.specs.Plain.{PlainPolynomial, polynomial}
 use Rattle.fj_theory.specs.PointIdeal.{UsesFirst}
 use Rattle.fj_theory.specs.Polynomial.{Polynomial, IsPolynomial}
 use Rattle.fj_theory.specs.Root.{IsRoot}
@@ -26,10 +26,12 @@ use Rattle.fj_script.specs.declared.question.Question.TheVariants as questions
 use Rattle.fj_script.specs.declared.script.Env.{Env}
 use Rattle.fj_session.specs.declared.types.Answer.{Answer}
 use Rattle.fj_session.specs.declared.types.Answer.TheVariants.{Parts, Ideal, Yes, No, StoppedPairs, StoppedHigh, Later}
-use Rattle.fj_session.specs.Answer.{AnswerUsesFirst, IsAnswer}
+use Rattle.fj_session.specs.Answer.{AnswerUsesFirst, IsAnswer, RowUsesFirst}
+use Rattle.fj_session.specs.Meaning.{IsIdealAnswer}
 use Rattle.fj_shell.specs.Asked.{AreOfOneSession, IsIdealAt, IsPolyAt}
 use Rattle.fj_shell.specs.Named.{ideal_at, polynomial_at, polynomials}
-use Rattle.fj_session.specs.Statement.{AsksFor}
+use Rattle.fj_session.specs.Statement.{meaning_of}
+use Rattle.fj_session.specs.declared.types.PartRow.{PartRow}
 use Rattle.fj_shell.proofs.Known.{basis_question, parts_question, power_question, prime_known, product_question, root_question, sum_question}
 use Rattle.fj_session.proofs.Printed.{key_of-IsMonomialOrder, polynomials_of_equal}
 use Rattle.fj_session.proofs.Variables.{rows_use_first}
@@ -78,59 +80,64 @@ module _ (env : Env) (asked : Asked) (one : AreOfOneSession env asked) where
   itself : {M : List Polynomial} → ArePolynomials (prime_field env.p) M → All (UsesFirst (length env.vars)) M → IsGenerated (prime_field env.p) (length env.vars) M
   itself {M} A uses = record { list = M; are = A; uses = uses; same = SameIdeal-refl (IsField-prime_field env.p (prime_known env asked one)) A }
 
+  -- The reduced basis of an ideal that is generated in the variables of the ring uses no other.
+  shown_uses_first : {IsAsked : List Polynomial → Type 0} → ((M : List Polynomial) → IsAsked M → IsGenerated (prime_field env.p) (length env.vars) M) → (list : List PlainPolynomial)
+      → IsIdealAnswer (prime_field env.p) asked.order IsAsked list → All (λ h. UsesFirst (length env.vars) (polynomial h)) list
+  shown_uses_first generated list h =
+      let lawful = IsField-prime_field env.p (prime_known env asked one) in
+      let K = key_of-IsMonomialOrder asked.order in
+      let G = generated h.ideal h.asked in
+      let A = polynomials_of_equal lawful G.are G.same in
+      All-map_back (UsesFirst (length env.vars)) polynomial list (IsReducedBasis-UsesFirst K lawful G.are G.uses (IsReducedBasis-same_ideal K lawful A G.are G.same h.shown.reduced))
+
+  exactly : {M : List Polynomial} → IsGenerated (prime_field env.p) (length env.vars) M → (N : List Polynomial) → N ≡ M → IsGenerated (prime_field env.p) (length env.vars) N
+  exactly G N is = subst (IsGenerated (prime_field env.p) (length env.vars)) (sym is) G
+
   -- The ideal that a question asks for is generated in the variables of the ring.
-  asked_is_generated : (q : Question) → asked.question ≡ q → (M : List Polynomial) → AsksFor (prime_field env.p) env q M → IsGenerated (prime_field env.p) (length env.vars) M
-  asked_is_generated (questions.Basis j) is M h =
+  list_uses_first : (q : Question) → asked.question ≡ q → (list : List PlainPolynomial) → (meaning_of (prime_field env.p) env asked.order q).answer (Ideal list) → All (λ h. UsesFirst (length env.vars) (polynomial h)) list
+  list_uses_first (questions.Basis j) is list h =
       let J = basis_question env asked j one is in
-      subst (IsGenerated (prime_field env.p) (length env.vars)) (sym h) (itself (ideal_are j J) (ideal_uses j J))
-  asked_is_generated (questions.Sum j k) is M h =
+      shown_uses_first (exactly (itself (ideal_are j J) (ideal_uses j J))) list h
+  list_uses_first (questions.Sum j k) is list h =
       let known = sum_question env asked j k one is in
-      subst (IsGenerated (prime_field env.p) (length env.vars)) (sym h)
-      (itself (ArePolynomials-append (ideal_are j known.0) (ideal_are k known.1)) (UsesFirst-append (ideal_at env j) (ideal_at env k) (ideal_uses j known.0) (ideal_uses k known.1)))
-  asked_is_generated (questions.Product j k) is M h =
+      shown_uses_first (exactly (itself (ArePolynomials-append (ideal_are j known.0) (ideal_are k known.1)) (UsesFirst-append (ideal_at env j) (ideal_at env k) (ideal_uses j known.0) (ideal_uses k known.1)))) list h
+  list_uses_first (questions.Product j k) is list h =
       let known = product_question env asked j k one is in
       let A = ideal_are j known.0 in
       let B = ideal_are k known.1 in
       let lawful = IsField-prime_field env.p (prime_known env asked one) in
-      subst (IsGenerated (prime_field env.p) (length env.vars)) (sym h) (itself (ArePolynomials-products lawful A B) (UsesFirst-products lawful A B (ideal_uses j known.0) (ideal_uses k known.1)))
-  asked_is_generated (questions.Power e j) is M h =
+      shown_uses_first (exactly (itself (ArePolynomials-products lawful A B) (UsesFirst-products lawful A B (ideal_uses j known.0) (ideal_uses k known.1)))) list h
+  list_uses_first (questions.Power e j) is list h =
       let known = power_question env asked e j one is in
       let A = ideal_are j known.1 in
       let lawful = IsField-prime_field env.p (prime_known env asked one) in
       let q = (prime_field env.p).characteristic ^ e in
-      subst (IsGenerated (prime_field env.p) (length env.vars)) (sym h) (itself (ArePolynomials-frobenius_power lawful A q) (UsesFirst-frobenius_power lawful A (ideal_uses j known.1) q))
-  asked_is_generated (questions.Root e j) is M h =
+      shown_uses_first (exactly (itself (ArePolynomials-frobenius_power lawful A q) (UsesFirst-frobenius_power lawful A (ideal_uses j known.1) q))) list h
+  list_uses_first (questions.Root e j) is list h =
       let known = root_question env asked e j one is in
       let found = has_root (IsField-prime_field env.p (prime_known env asked one)) (length env.vars) e (ideal_at env j) (ideal_are j known.1) (ideal_uses j known.1) in
-      record { list = found.list; are = found.root.polynomials; uses = found.uses; same = IsRoot-unique h found.root }
-  asked_is_generated (questions.Parts e f) is M h = absurd h
-  asked_is_generated (questions.Member f j) is M h = absurd h
-  asked_is_generated (questions.Same j k) is M h = absurd h
-  asked_is_generated (questions.Meet j k) is M h = absurd h
-  asked_is_generated (questions.Colon j k) is M h = absurd h
-  asked_is_generated (questions.Test f t) is M h = absurd h
-  asked_is_generated (questions.Left f t) is M h = absurd h
-  asked_is_generated (questions.IsJump f t) is M h = absurd h
-  asked_is_generated (questions.Regular f t) is M h = absurd h
-  asked_is_generated (questions.Jumps f e) is M h = absurd h
-  asked_is_generated (questions.Nu e f j) is M h = absurd h
-  asked_is_generated (questions.Threshold f j e) is M h = absurd h
-  asked_is_generated (questions.ThresholdAt f at e) is M h = absurd h
-  asked_is_generated (questions.Pure j) is M h = absurd h
-  asked_is_generated (questions.PureAt j at) is M h = absurd h
-  asked_is_generated (questions.Split j) is M h = absurd h
-  asked_is_generated (questions.Compatible e u j) is M h = absurd h
+      shown_uses_first {IsAsked = IsRoot (prime_field env.p) ((prime_field env.p).characteristic ^ e) (ideal_at env j)} (λ M root. record { list = found.list; are = found.root.polynomials; uses = found.uses; same = IsRoot-unique root found.root }) list h
+  list_uses_first (questions.Parts e f) is list h = absurd h
+  list_uses_first (questions.Member f j) is list h = absurd h
+  list_uses_first (questions.Same j k) is list h = absurd h
+  list_uses_first _ is list h = absurd h
+
+  rows_of_question : (q : Question) → asked.question ≡ q → (rows : List PartRow) → (meaning_of (prime_field env.p) env asked.order q).answer (Parts rows) → All (RowUsesFirst (length env.vars)) rows
+  rows_of_question (questions.Parts e f) is rows h =
+      let P = (parts_question env asked e f one is).poly in
+      rows_use_first (IsField-prime_field env.p (prime_known env asked one)) (length env.vars) e (polynomial_at env f) (subst (UsesFirst (length env.vars)) (sym (polynomial_named f P)) P.variables) rows h
+  rows_of_question (questions.Basis j) is rows h = absurd h
+  rows_of_question (questions.Member f j) is rows h = absurd h
+  rows_of_question (questions.Same j k) is rows h = absurd h
+  rows_of_question (questions.Sum j k) is rows h = absurd h
+  rows_of_question (questions.Product j k) is rows h = absurd h
+  rows_of_question (questions.Power e j) is rows h = absurd h
+  rows_of_question (questions.Root e j) is rows h = absurd h
+  rows_of_question _ is rows h = absurd h
 
   pub answer_uses_first : (a : Answer) → IsAnswer env asked a → AnswerUsesFirst (length env.vars) a
-  answer_uses_first (Parts rows) h =
-      let P = (parts_question env asked h.0 h.1 one h.2).poly in
-      rows_use_first (IsField-prime_field env.p (prime_known env asked one)) (length env.vars) h.0 (polynomial_at env h.1) (subst (UsesFirst (length env.vars)) (sym (polynomial_named h.1 P)) P.variables) rows h.3
-  answer_uses_first (Ideal list) h =
-      let lawful = IsField-prime_field env.p (prime_known env asked one) in
-      let K = key_of-IsMonomialOrder asked.order in
-      let G = asked_is_generated asked.question refl h.ideal h.asked in
-      let A = polynomials_of_equal lawful G.are G.same in
-      All-map_back (UsesFirst (length env.vars)) polynomial list (IsReducedBasis-UsesFirst K lawful G.are G.uses (IsReducedBasis-same_ideal K lawful A G.are G.same h.shown.reduced))
+  answer_uses_first (Parts rows) h = rows_of_question asked.question refl rows h
+  answer_uses_first (Ideal list) h = list_uses_first asked.question refl list h
   answer_uses_first Yes h = tt
   answer_uses_first No h = tt
   answer_uses_first (StoppedPairs k) h = tt

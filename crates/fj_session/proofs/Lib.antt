@@ -1,9 +1,9 @@
 pub mod Residues
-pub mod Stops
-pub mod HighProducts
 pub mod OwnStops
 pub mod Made
 pub mod Printed
+pub mod PrintStops
+pub mod KeptAgain
 pub mod AnswerVariables
 pub mod Places
 pub mod Pieces

@@ -5,7 +5,8 @@ use Rattle.fj_theory.specs.PointIdeal.{UsesFirst}
 use Rattle.fj_theory.specs.Polynomial.{Polynomial}
 use Rattle.fj_algebra.proofs.Lists.{All-map_back}
 use Rattle.fj_theory.proofs.UsesFirst.{UsesFirst-parts, UsesFirst-residues}
-use Rattle.fj_session.specs.Answer.{AreRows, RowUsesFirst, part_of}
+use Rattle.fj_session.specs.Answer.{RowUsesFirst}
+use Rattle.fj_session.specs.Meaning.{AreRows, part_of}
 use Rattle.fj_session.specs.declared.types.PartRow.{PartRow}
 
 module _ {F : Field} (L : IsField F) (n e : ℕ) (f : Polynomial) (first : UsesFirst n f) where

@@ -1,57 +1,31 @@
 -- The answer to a question, as data.
-use Rattle.std.specs.Prelude.{◌≡◌, ◌⊎◌, ℕ, ◌≤◌, ◌^◌, Bool, true, false, List, All, map, slice_index}
+use Rattle.std.specs.Prelude.{◌≡◌, ◌⊎◌, ℕ, ◌≤◌, Bool, true, false, All, slice_index}
 use Rattle.fj_coeff.specs.Field.{Field}
 use Rattle.fj_coeff.specs.PrimeField.{prime_field}
-use Rattle.fj_theory.specs.Parts.{Part, IsParts}
-use Rattle.fj_theory.specs.Plain.{PlainPolynomial, polynomial}
+use Rattle.fj_theory.specs.Plain.{polynomial}
 use Rattle.fj_theory.specs.PointIdeal.{UsesFirst}
-use Rattle.fj_theory.specs.Polynomial.{Polynomial, terms_falling}
-use Rattle.fj_groebner.specs.ReducedBasis.{IsReducedBasis}
 use Rattle.fj_plain.specs.declared.order_name.OrderName.{OrderName}
+use Rattle.fj_basis.specs.Outcome.{TermsFall}
+use Rattle.fj_ideal.specs.Stop.{IsProductOf, IsTooHigh, IsUnfinished, key_of}
 use Rattle.fj_script.specs.declared.question.Asked.{Asked}
-use Rattle.fj_script.specs.declared.question.Question.{Question}
-use Rattle.fj_script.specs.declared.question.Question.TheVariants as questions
 use Rattle.fj_script.specs.declared.script.Env.{Env}
-use Rattle.fj_shell.specs.Named.{polynomial_at, polynomials}
-use Rattle.fj_session.specs.Statement.{AsksFor, IsFalseOf, IsHighProductOf, IsLeft, IsListOf, IsTrueOf}
-use Rattle.fj_session.specs.Stop.{IsProductOf, IsTooHigh, IsUnfinished, key_of}
+use Rattle.fj_session.specs.Meaning.{Meaning}
+use Rattle.fj_session.specs.Statement.{meaning_of}
 use Rattle.fj_session.specs.declared.types.Answer.{Answer}
 use Rattle.fj_session.specs.declared.types.Answer.TheVariants.{Parts, Ideal, Yes, No, StoppedPairs, StoppedHigh, Later}
 use Rattle.fj_session.specs.declared.types.PartRow.{PartRow}
 
-abbrev pub part_of : PartRow → Part
-part_of row = record { residue = row.residue.exponents; polynomial = polynomial row.poly }
+-- What the answer to a question is. A question stops only where the run on one of its lists, which is kept, makes all turns
+-- of the budget or comes to a degree above 2^40, or one of its products does. The terms of what is kept fall in the
+-- printing order.
+abbrev pub IsAnswerTo : Field → Meaning → OrderName → ℕ → Answer → Type 0
+IsAnswerTo F meaning printing budget (StoppedPairs k) = IsUnfinished F meaning.lists budget k × TermsFall (key_of printing) k.list
+IsAnswerTo F meaning printing budget (StoppedHigh k) = (IsTooHigh F meaning.lists budget k ⊎ IsProductOf meaning.products k) × TermsFall (key_of printing) k.list
+IsAnswerTo F meaning printing budget answer = meaning.answer answer
 
--- The rows are the parts of f over the q-th powers, q = p^e, and the terms of each part fall in this order.
-pub record AreRows (F : Field) (key : List ℕ → List ℕ) (e : ℕ) (f : Polynomial) (rows : List PartRow) : Type 0 where
-  pub parts : IsParts F (F.characteristic ^ e) f (map part_of rows)
-  pub falling : All (λ row. row.poly.terms ≡ terms_falling key (polynomial row.poly)) rows
-
--- The question is one for the parts at e of the name with this place.
-abbrev pub IsForParts : Question → ℕ → ℕ → Type 0
-IsForParts question e place = question ≡ questions.Parts e place
-
--- The list is the reduced basis of the ideal (M) for an order, and the terms of each member fall in it.
-pub record IsShownBasis (F : Field) (key : List ℕ → List ℕ) (M : List Polynomial) (list : List PlainPolynomial) : Type 0 where
-  pub reduced : IsReducedBasis F key M (polynomials list)
-  pub falling : All (λ h. h.terms ≡ terms_falling key (polynomial h)) list
-
--- The list is the reduced basis, for the printing order, of the ideal that the question asks for.
-pub record IsIdealAnswer (F : Field) (env : Env) (question : Question) (order : OrderName) (list : List PlainPolynomial) : Type 0 where
-  pub ideal : List Polynomial
-  pub asked : AsksFor F env question ideal
-  pub shown : IsShownBasis F (key_of order) ideal list
-
--- What the answer to a question over the field F is. A question stops only where the run on one of its lists, which is
--- kept, makes all turns of the budget or comes to a degree above 2^40, or one of its products does.
+-- What the answer to a question over the field F is.
 abbrev pub IsAnswerOver : Field → Env → Asked → Answer → Type 0
-IsAnswerOver F env asked (Parts rows) = (e : ℕ) × (place : ℕ) × IsForParts asked.question e place × AreRows F (key_of asked.order) e (polynomial_at env place) rows
-IsAnswerOver F env asked (Ideal list) = IsIdealAnswer F env asked.question asked.order list
-IsAnswerOver F env asked Yes = IsTrueOf F env asked.question
-IsAnswerOver F env asked No = IsFalseOf F env asked.question
-IsAnswerOver F env asked (StoppedPairs k) = IsUnfinished F (IsListOf F env asked.question asked.order) asked.budget k
-IsAnswerOver F env asked (StoppedHigh k) = IsTooHigh F (IsListOf F env asked.question asked.order) asked.budget k ⊎ IsProductOf (IsHighProductOf F env asked.question) k
-IsAnswerOver F env asked Later = IsLeft asked.question
+IsAnswerOver F env asked answer = IsAnswerTo F (meaning_of F env asked.order asked.question) asked.order asked.budget answer
 
 -- What the answer to a question of a session is, over the prime field of its ring.
 abbrev pub IsAnswer : Env → Asked → Answer → Type 0

@@ -1,6 +1,6 @@
-pub mod Lists
+pub mod Meaning
+pub mod Ideals
 pub mod Statement
-pub mod Stop
 pub mod Answer
 pub mod AnswerLaws
 pub mod Outcome

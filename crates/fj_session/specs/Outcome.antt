@@ -1,27 +1,25 @@
 -- What the calculation of the ideals of a question gives, and why it stops.
-use Rattle.std.specs.Prelude.{◌≡◌, ◌≢◌, ℕ, List, [], ◌∷◌, Contains}
+use Rattle.std.specs.Prelude.{◌≡◌, ◌≢◌, ℕ, List, Result}
 use Rattle.fj_coeff.specs.Field.{Field}
 use Rattle.fj_theory.specs.Ideal.{SameIdeal}
-use Rattle.fj_theory.specs.Polynomial.{Polynomial, power}
-use Rattle.fj_poly.specs.Limit.{IsHigh}
+use Rattle.fj_theory.specs.Plain.{PlainPolynomial}
+use Rattle.fj_theory.specs.Polynomial.{Polynomial}
+use Rattle.fj_plain.specs.declared.lists.Kept.{Kept}
 use Rattle.fj_plain.specs.declared.order_name.OrderName.{OrderName}
 use Rattle.fj_plain.specs.declared.order_name.OrderName.TheVariants.{Grevlex}
+use Rattle.fj_basis.specs.Outcome.{TermsFall}
 use Rattle.fj_basis.specs.declared.stop.Stop.{Stop}
 use Rattle.fj_ideal.specs.Ideal.{IsIdeal, WithBasis}
-use Rattle.fj_script.specs.declared.question.Asked.{Asked}
-use Rattle.fj_script.specs.declared.question.Question.{Question}
-use Rattle.fj_script.specs.declared.script.Env.{Env}
-use Rattle.fj_session.specs.Statement.{AsksFor, IsHighProductOf, IsListOf, IsOwnList}
-use Rattle.fj_session.specs.Answer.{IsShownBasis}
-use Rattle.fj_session.specs.Stop.{IsCauseOf, key_of}
+use Rattle.fj_ideal.specs.Lists.{NoProduct, RunFor}
+use Rattle.fj_ideal.specs.Stop.{StopsOnlyWith, kept_list, key_of}
+use Rattle.fj_session.specs.Meaning.{IsShownBasis, Meaning}
 use Rattle.fj_session.specs.declared.types.Answer.{Answer}
 use Rattle.fj_session.specs.declared.types.Answer.TheVariants as answers
-use Rattle.fj_theory.specs.Plain.{PlainPolynomial}
 
--- J is the ideal that the question asks for.
-pub record IsIdealFor (F : Field) (env : Env) (question : Question) (J : WithBasis) : Type 0 where
+-- J is an ideal that is asked for.
+pub record IsIdealFor (F : Field) (IsAsked : List Polynomial → Type 0) (J : WithBasis) : Type 0 where
   pub ideal : List Polynomial
-  pub asked : AsksFor F env question ideal
+  pub asked : IsAsked ideal
   pub same : SameIdeal F ideal J.given
   pub is_ideal : IsIdeal F J
 
@@ -29,29 +27,20 @@ pub record IsIdealFor (F : Field) (env : Env) (question : Question) (J : WithBas
 abbrev pub IsShown : Field → OrderName → List Polynomial → Answer → Type 0
 IsShown F order L answer = (list : List PlainPolynomial) × (answer ≡ answers.Ideal list) × IsShownBasis F (key_of order) L list
 
--- The run on L stops for this order.
-abbrev pub IsRunStop : Field → OrderName → List Polynomial → ℕ → Stop → Type 0
-IsRunStop F order L budget = IsCauseOf F (λ o M. (o ≡ order) × (M ≡ L)) (λ M. ⊥) budget
+-- The calculation stops only with one of these lists, run for Grevlex, or such a product.
+abbrev pub OwnStops : {T : Type 0} → Field → (List Polynomial → Type 0) → (List Polynomial → Type 0) → ℕ → Result T Stop → Type 0
+OwnStops F IsList IsProduct budget r = StopsOnlyWith F (RunFor Grevlex IsList) IsProduct budget r
 
--- The run on L stops for a printing order that isn't Grevlex.
-abbrev pub IsPrintStop : Field → OrderName → List Polynomial → ℕ → Stop → Type 0
-IsPrintStop F order L budget = IsCauseOf F (λ o M. (o ≡ order) × (order ≢ Grevlex) × (M ≡ L)) (λ M. ⊥) budget
+-- It stops only with the run on L for a printing order that isn't Grevlex.
+abbrev pub PrintStops : {T : Type 0} → Field → OrderName → List Polynomial → ℕ → Result T Stop → Type 0
+PrintStops F printing L budget r = StopsOnlyWith F (RunFor printing (λ M. (printing ≢ Grevlex) × (M ≡ L))) NoProduct budget r
 
--- The run on a list that the question needs stops, or a product of it is too high.
-abbrev pub IsOwnStop : Field → Env → Question → ℕ → Stop → Type 0
-IsOwnStop F env question budget = IsCauseOf F (λ o M. (o ≡ Grevlex) × IsOwnList F env question M) (IsHighProductOf F env question) budget
+-- It stops only with a cause that this meaning gives.
+abbrev pub StopsFor : {T : Type 0} → Field → Meaning → ℕ → Result T Stop → Type 0
+StopsFor F meaning budget r = StopsOnlyWith F meaning.lists meaning.products budget r
 
--- Why the question stops.
-abbrev pub IsStopFor : Field → Env → Asked → Stop → Type 0
-IsStopFor F env asked = IsCauseOf F (IsListOf F env asked.question asked.order) (IsHighProductOf F env asked.question) asked.budget
-
--- A polynomial of the list is kept, whose q-th power has a term of a total degree above 2^40.
-pub record IsHighPower (F : Field) (q : ℕ) (L M : List Polynomial) : Type 0 where
-  pub g : Polynomial
-  pub there : Contains L g
-  pub high : IsHigh (power F g q)
-  pub is : M ≡ g ∷ []
-
--- Why the q-th powers of a list aren't formed.
-abbrev pub IsHighPowerOf : Field → ℕ → List Polynomial → Stop → Type 0
-IsHighPowerOf F q L = IsCauseOf F (λ o M. ⊥) (IsHighPower F q L) 0
+-- The same is kept, its terms falling in the order of the key.
+pub record IsKeptAgain (key : List ℕ → List ℕ) (old new : Kept) : Type 0 where
+  pub order : new.order ≡ old.order
+  pub list : kept_list new ≡ kept_list old
+  pub falling : TermsFall key new.list

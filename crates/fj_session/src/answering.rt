@@ -1,20 +1,21 @@
 //! The answers to the questions of a session.
-ghost use Rattle.std.specs.Prelude.{◌≡◌, IfErr, IfOk, length, if◌then◌else◌};
+ghost use Rattle.std.specs.Prelude.{◌≡◌, IfOk, length, if◌then◌else◌};
 ghost use Rattle.fj_coeff.specs.PrimeField.{prime_field};
 ghost use Rattle.fj_session.specs.declared.types.Answer.TheVariants as answers;
 ghost use Rattle.fj_session.specs.Answer.{AnswerUsesFirst, IsAnswer, IsAnswerOver};
 ghost use Rattle.fj_shell.specs.Asked.{AreOfOneSession};
-ghost use Rattle.fj_session.specs.Outcome.{IsPrintStop, IsShown, IsStopFor};
+ghost use Rattle.fj_session.specs.Outcome.{IsShown, PrintStops, StopsFor};
+ghost use Rattle.fj_session.specs.Statement.{meaning_of};
 
-use super::ideals::{are_same, declared, frobenius_power, is_member, product, root, sum};
+use super::ideals::{are_same, declared, is_member, power, product, root, sum};
+use fj_shell::polynomial_at;
 use super::part_rows::part_rows;
-use super::shown::shown_basis;
+use super::shown::{shown_basis, shown_kept};
 use super::types::Answer;
 use fj_basis::Stop;
 use fj_coeff::{Coeff, OverField, over_prime_field};
 use fj_ideal::Ideal;
 use fj_script::{Asked, Env, Question};
-use fj_shell::polynomial_at;
 use std::alloc::{AllocError, Global};
 
 /// The answer to a question of a session, over the prime field GF(p) of its ring.
@@ -31,7 +32,7 @@ use std::alloc::{AllocError, Global};
 /// budget and leaves pairs pending (`StoppedPairs`), or comes to a sugar above 2^40, or where a product of it has a term of a
 /// total degree above 2^40 (`StoppedHigh`; of a product its polynomials are kept). The lists are those that the question
 /// names, then the one of its ideal, made of reduced Grevlex bases, and last, where the printing order isn't Grevlex, the
-/// reduced Grevlex basis of the ideal that is printed.
+/// reduced Grevlex basis of the ideal that is printed. The terms of what is kept fall in the printing order.
 ///
 /// Nothing past the variables of the ring occurs in an answer that doesn't stop.
 ///
@@ -78,11 +79,16 @@ fn field_answer<K: Coeff>(alloc: Global, env: &Env, asked: &Asked) -> Result<Ans
     requires field { K.field ≡ prime_field env.now.p }
     ensures { IfOk result (IsAnswerOver K.field env.now asked.now) }
 {
+    let order = asked.order;
     match found::<K>(alloc, env, asked) {
         Ok(answer) => Ok(answer),
-        Err(Stop::Pairs(kept)) => Ok(Answer::StoppedPairs(kept)),
-        Err(Stop::High(kept)) => Ok(Answer::StoppedHigh(kept)),
-        Err(Stop::Product(kept)) => Ok(Answer::StoppedHigh(kept)),
+        Err(Stop::Pairs(kept)) => {
+            Ok(Answer::StoppedPairs(shown_kept::<K>(alloc, &kept, order)?))
+        }
+        Err(Stop::High(kept)) => Ok(Answer::StoppedHigh(shown_kept::<K>(alloc, &kept, order)?)),
+        Err(Stop::Product(kept)) => {
+            Ok(Answer::StoppedHigh(shown_kept::<K>(alloc, &kept, order)?))
+        }
         Err(Stop::Memory) => Err(AllocError),
     }
 }
@@ -92,7 +98,7 @@ fn found<K: Coeff>(alloc: Global, env: &Env, asked: &Asked) -> Result<Answer, St
     requires session { AreOfOneSession env.now asked.now }
     requires field { K.field ≡ prime_field env.now.p }
     ensures answer { IfOk result (IsAnswerOver K.field env.now asked.now) }
-    ensures stop { IfErr result (IsStopFor K.field env.now asked.now) }
+    ensures stop { StopsFor K.field (meaning_of K.field env.now asked.now.order asked.now.question) asked.now.budget result }
 {
     let budget = asked.budget;
     match asked.question {
@@ -110,13 +116,7 @@ fn found<K: Coeff>(alloc: Global, env: &Env, asked: &Asked) -> Result<Answer, St
         Question::Product { j, k } => {
             shown(alloc, asked, &product::<K>(alloc, env, budget, j, k)?)
         }
-        Question::Power { e, j } => {
-            shown(
-                alloc,
-                asked,
-                &frobenius_power::<K>(alloc, env, budget, e, j)?,
-            )
-        }
+        Question::Power { e, j } => { shown(alloc, asked, &power::<K>(alloc, env, budget, e, j)?) }
         Question::Root { e, j } => shown(alloc, asked, &root::<K>(alloc, env, budget, e, j)?),
         _ => Ok(Answer::Later),
     }
@@ -125,7 +125,7 @@ fn found<K: Coeff>(alloc: Global, env: &Env, asked: &Asked) -> Result<Answer, St
 /// The answer that an ideal is, for the printing order of the question.
 fn shown<K: Coeff>(alloc: Global, asked: &Asked, ideal: &Ideal<K>) -> Result<Answer, Stop>
     ensures answer { IfOk result (IsShown K.field asked.now.order ideal.now.given) }
-    ensures stop { IfErr result (IsPrintStop K.field asked.now.order ideal.now.members asked.now.budget) }
+    ensures stop { PrintStops K.field asked.now.order ideal.now.members asked.now.budget result }
 {
     let list = shown_basis(alloc, ideal, asked.order, asked.budget)?;
     Ok(Answer::Ideal(list))

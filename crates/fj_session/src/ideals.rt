@@ -2,32 +2,27 @@
 //!
 //! The lists whose bases a question needs are run in order, and each of them once, so that the calculation stops at the
 //! first list that stops.
-ghost use Rattle.std.specs.Prelude.{◌≡◌, ◌∷◌, [], ◌≤◌, ◌^◌, IfErr, IfOk, IsTrue, ◌↔◌, MatchBool, MatchOption};
-ghost use Rattle.std.specs.List.{Any};
+ghost use Rattle.std.specs.Prelude.{◌≡◌, ◌++◌, ◌⊎◌, ◌≤◌, ◌^◌, IfOk, MatchBool, MatchOption};
 ghost use Rattle.fj_coeff.specs.PrimeField.{prime_field};
-ghost use Rattle.fj_theory.specs.FrobeniusPower.{frobenius_power};
-ghost use Rattle.fj_theory.specs.Polynomial.{power};
-ghost use Rattle.fj_plain.specs.declared.order_name.OrderName.TheVariants as orders;
-ghost use Rattle.fj_poly.specs.Limit.{IsHigh};
+ghost use Rattle.fj_theory.specs.FrobeniusPower as theory;
+ghost use Rattle.fj_theory.specs.Ideal.{Member, SameIdeal, products};
+ghost use Rattle.fj_theory.specs.Root.{IsRoot};
 ghost use Rattle.fj_ideal.specs.Ideal.{IsIdealOf};
-ghost use Rattle.fj_script.specs.declared.question.Question.TheVariants as questions;
+ghost use Rattle.fj_ideal.specs.Lists.{NoProduct};
 ghost use Rattle.fj_shell.specs.Asked.{IsIdealAt, IsPolyAt};
-ghost use Rattle.fj_shell.specs.Named.{ideal_at};
-ghost use Rattle.fj_session.specs.Lists.{AreLow};
-ghost use Rattle.fj_session.specs.Outcome.{IsHighPowerOf, IsIdealFor, IsOwnStop, IsRunStop};
-ghost use Rattle.fj_session.specs.Statement.{IsFalseOf, IsTrueOf};
+ghost use Rattle.fj_shell.specs.Named.{ideal_at, polynomial_at};
+ghost use Rattle.fj_session.specs.Ideals.{IsHighOfPower, IsHighOfProduct, IsListOfPower, IsListOfProduct, IsListOfRoot, IsListOfSum};
+ghost use Rattle.fj_session.specs.Outcome.{IsIdealFor, OwnStops};
 
-use super::shown::{from_plain, to_plain};
+use fj_shell::{generators_at, polynomial_at};
+use super::shown::from_plain;
 use fj_basis::Stop;
 use fj_coeff::Coeff;
+use fj_frobenius::{frobenius_power, frobenius_root};
 use fj_ideal::Ideal;
-use fj_plain::{Kept, OrderName};
-use fj_poly::{GPoly, Poly, PolyFault};
-use fj_root::{frob_power, root_list};
+use fj_poly::Poly;
 use fj_script::Env;
-use fj_shell::{generators_at, polynomial_at};
 use std::alloc::Global;
-use std::slice;
 
 /// The ideal of the generators as declared.
 pub(crate) fn declared<K: Coeff>(
@@ -39,9 +34,9 @@ pub(crate) fn declared<K: Coeff>(
     requires field { K.field ≡ prime_field env.now.p }
     requires named { IsIdealAt env.now j }
     ensures ideal { IfOk result (IsIdealOf K.field (ideal_at env.now j)) }
-    ensures stop { IfErr result (IsRunStop K.field orders.Grevlex (ideal_at env.now j) budget) }
+    ensures stop { OwnStops K.field (λ L. L ≡ ideal_at env.now j) NoProduct budget result }
 {
-    Ideal::of(alloc, &from_plain(alloc, generators_at(env, j))?, budget)
+    Ideal::of_owned(alloc, from_plain(alloc, generators_at(env, j))?, budget)
 }
 
 /// The ideal of the second name, unless it is the first one again.
@@ -55,7 +50,7 @@ fn other<K: Coeff>(
     requires field { K.field ≡ prime_field env.now.p }
     requires named { IsIdealAt env.now k }
     ensures ideal { IfOk result (λ other. MatchOption other (k ≡ j) (IsIdealOf K.field (ideal_at env.now k))) }
-    ensures stop { IfErr result (IsRunStop K.field orders.Grevlex (ideal_at env.now k) budget) }
+    ensures stop { OwnStops K.field (λ L. L ≡ ideal_at env.now k) NoProduct budget result }
 {
     if k == j {
         return Ok(None);
@@ -74,8 +69,8 @@ pub(crate) fn sum<K: Coeff>(
     requires field { K.field ≡ prime_field env.now.p }
     requires first { IsIdealAt env.now j }
     requires second { IsIdealAt env.now k }
-    ensures ideal { IfOk result (IsIdealFor K.field env.now (questions.Sum j k)) }
-    ensures stop { IfErr result (IsOwnStop K.field env.now (questions.Sum j k) budget) }
+    ensures ideal { IfOk result (IsIdealFor K.field (λ M. M ≡ ideal_at env.now j ++ ideal_at env.now k)) }
+    ensures stop { OwnStops K.field (IsListOfSum K.field (ideal_at env.now j) (ideal_at env.now k)) NoProduct budget result }
 {
     let first = declared(alloc, env, budget, j)?;
     match other(alloc, env, budget, j, k)? {
@@ -95,8 +90,8 @@ pub(crate) fn product<K: Coeff>(
     requires field { K.field ≡ prime_field env.now.p }
     requires first { IsIdealAt env.now j }
     requires second { IsIdealAt env.now k }
-    ensures ideal { IfOk result (IsIdealFor K.field env.now (questions.Product j k)) }
-    ensures stop { IfErr result (IsOwnStop K.field env.now (questions.Product j k) budget) }
+    ensures ideal { IfOk result (IsIdealFor K.field (λ M. M ≡ products K.field (ideal_at env.now j) (ideal_at env.now k))) }
+    ensures stop { OwnStops K.field (IsListOfProduct K.field (ideal_at env.now j) (ideal_at env.now k)) (IsHighOfProduct K.field (ideal_at env.now j) (ideal_at env.now k)) budget result }
 {
     let first = declared(alloc, env, budget, j)?;
     match other(alloc, env, budget, j, k)? {
@@ -105,8 +100,8 @@ pub(crate) fn product<K: Coeff>(
     }
 }
 
-/// The Frobenius power of an ideal: that of the q-th powers of the members of its basis, q = p^e.
-pub(crate) fn frobenius_power<K: Coeff>(
+/// The Frobenius power of an ideal.
+pub(crate) fn power<K: Coeff>(
     alloc: Global,
     env: &Env,
     budget: u64,
@@ -116,45 +111,14 @@ pub(crate) fn frobenius_power<K: Coeff>(
     requires field { K.field ≡ prime_field env.now.p }
     requires small { e ≤ 12 }
     requires named { IsIdealAt env.now j }
-    ensures ideal { IfOk result (IsIdealFor K.field env.now (questions.Power e j)) }
-    ensures stop { IfErr result (IsOwnStop K.field env.now (questions.Power e j) budget) }
+    ensures ideal { IfOk result (IsIdealFor K.field (λ M. M ≡ theory.frobenius_power K.field (K.field.characteristic ^ e) (ideal_at env.now j))) }
+    ensures stop { OwnStops K.field (IsListOfPower K.field (K.field.characteristic ^ e) (ideal_at env.now j)) (IsHighOfPower K.field (K.field.characteristic ^ e) (ideal_at env.now j)) budget result }
 {
-    let ideal = declared::<K>(alloc, env, budget, j)?;
-    Ideal::of(alloc, &powers(alloc, e, ideal.members())?, budget)
+    let ideal = declared(alloc, env, budget, j)?;
+    frobenius_power(alloc, e, &ideal, budget)
 }
 
-/// The q-th powers of polynomials, q = p^e. Where one passes degree 2^40, its base is kept.
-fn powers<K: Coeff>(alloc: Global, e: u32, list: &[GPoly<K>]) -> Result<Vec<GPoly<K>>, Stop>
-    requires { e ≤ 12 }
-    ensures value { IfOk result (λ powers. powers.items ≡ frobenius_power K.field (K.field.characteristic ^ e) list.now) }
-    ensures low { IfOk result (λ powers. AreLow powers.items) }
-    ensures stop { IfErr result (IsHighPowerOf K.field (K.field.characteristic ^ e) list.now) }
-{
-    let mut powers = Vec::with_capacity(alloc, list.len())?;
-    for g in list {
-        powers.append(&mut power_of(alloc, e, g)?)?;
-    }
-    Ok(powers)
-}
-
-/// The list of the q-th power of one polynomial, q = p^e.
-fn power_of<K: Coeff>(alloc: Global, e: u32, g: &GPoly<K>) -> Result<Vec<GPoly<K>>, Stop>
-    requires { e ≤ 12 }
-    ensures value { IfOk result (λ powers. powers.items ≡ power K.field g.now (K.field.characteristic ^ e) ∷ []) }
-    ensures low { IfOk result (λ powers. AreLow powers.items) }
-    ensures stop { IfErr result (IsHighPowerOf K.field (K.field.characteristic ^ e) (g.now ∷ [])) }
-{
-    match frob_power(alloc, e, slice::from_ref(g)) {
-        Ok(powers) => Ok(powers),
-        Err(PolyFault::High) => Err(Stop::Product(Kept {
-            order: OrderName::Grevlex,
-            list: to_plain(alloc, slice::from_ref(g))?,
-        })),
-        Err(PolyFault::Memory) => Err(Stop::Memory),
-    }
-}
-
-/// The Frobenius root of an ideal: that of the parts at e of the members of its basis.
+/// The Frobenius root of an ideal.
 pub(crate) fn root<K: Coeff>(
     alloc: Global,
     env: &Env,
@@ -165,11 +129,11 @@ pub(crate) fn root<K: Coeff>(
     requires field { K.field ≡ prime_field env.now.p }
     requires small { e ≤ 12 }
     requires named { IsIdealAt env.now j }
-    ensures ideal { IfOk result (IsIdealFor K.field env.now (questions.Root e j)) }
-    ensures stop { IfErr result (IsOwnStop K.field env.now (questions.Root e j) budget) }
+    ensures ideal { IfOk result (IsIdealFor K.field (IsRoot K.field (K.field.characteristic ^ e) (ideal_at env.now j))) }
+    ensures stop { OwnStops K.field (IsListOfRoot K.field (K.field.characteristic ^ e) (ideal_at env.now j)) NoProduct budget result }
 {
-    let ideal = declared::<K>(alloc, env, budget, j)?;
-    Ideal::of(alloc, &root_list(alloc, e, ideal.members())?, budget)
+    let ideal = declared(alloc, env, budget, j)?;
+    frobenius_root(alloc, e, &ideal, budget)
 }
 
 /// Whether a polynomial is in an ideal.
@@ -183,8 +147,8 @@ pub(crate) fn is_member<K: Coeff>(
     requires field { K.field ≡ prime_field env.now.p }
     requires polynomial { IsPolyAt env.now f }
     requires named { IsIdealAt env.now j }
-    ensures verdict { IfOk result (λ b. MatchBool b (IsTrueOf K.field env.now (questions.Member f j)) (IsFalseOf K.field env.now (questions.Member f j))) }
-    ensures stop { IfErr result (IsOwnStop K.field env.now (questions.Member f j) budget) }
+    ensures verdict { IfOk result (λ b. MatchBool b (Member K.field (ideal_at env.now j) (polynomial_at env.now f)) (Member K.field (ideal_at env.now j) (polynomial_at env.now f) → ⊥)) }
+    ensures stop { OwnStops K.field (λ L. L ≡ ideal_at env.now j) NoProduct budget result }
 {
     let ideal = declared::<K>(alloc, env, budget, j)?;
     let h = Poly::from_plain(alloc, polynomial_at(env, f))?;
@@ -202,8 +166,8 @@ pub(crate) fn are_same<K: Coeff>(
     requires field { K.field ≡ prime_field env.now.p }
     requires first { IsIdealAt env.now j }
     requires second { IsIdealAt env.now k }
-    ensures verdict { IfOk result (λ b. MatchBool b (IsTrueOf K.field env.now (questions.Same j k)) (IsFalseOf K.field env.now (questions.Same j k))) }
-    ensures stop { IfErr result (IsOwnStop K.field env.now (questions.Same j k) budget) }
+    ensures verdict { IfOk result (λ b. MatchBool b (SameIdeal K.field (ideal_at env.now j) (ideal_at env.now k)) (SameIdeal K.field (ideal_at env.now j) (ideal_at env.now k) → ⊥)) }
+    ensures stop { OwnStops K.field (λ L. (L ≡ ideal_at env.now j) ⊎ (L ≡ ideal_at env.now k)) NoProduct budget result }
 {
     let first = declared::<K>(alloc, env, budget, j)?;
     match other(alloc, env, budget, j, k)? {

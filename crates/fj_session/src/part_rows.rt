@@ -4,8 +4,8 @@ ghost use Rattle.fj_theory.specs.Exponents.{total};
 ghost use Rattle.fj_theory.specs.Plain.{HasRanksBelow, polynomial};
 ghost use Rattle.fj_theory.specs.Polynomial.{terms_falling};
 ghost use Rattle.fj_root.specs.Part.{parts_of};
-ghost use Rattle.fj_session.specs.Answer.{AreRows, part_of};
-ghost use Rattle.fj_session.specs.Stop.{key_of};
+ghost use Rattle.fj_ideal.specs.Stop.{key_of};
+ghost use Rattle.fj_session.specs.Meaning.{AreRows, part_of};
 
 use super::types::{PartList, PartRow};
 use fj_coeff::Coeff;

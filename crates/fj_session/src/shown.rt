@@ -1,29 +1,28 @@
 //! Lists of polynomials and ideals, as answers tell them.
-ghost use Rattle.std.specs.Prelude.{◌≡◌, ◌≤◌, ◌^◌, All, IfErr, IfOk, map};
+ghost use Rattle.std.specs.Prelude.{◌≡◌, ◌≤◌, ◌^◌, All, IfOk};
 ghost use Rattle.fj_theory.specs.Exponents.{total};
-ghost use Rattle.fj_theory.specs.Plain.{HasRanksBelow, polynomial};
-ghost use Rattle.fj_theory.specs.Polynomial.{terms_falling};
+ghost use Rattle.fj_theory.specs.Plain.{HasRanksBelow};
 ghost use Rattle.fj_groebner.specs.Run.{TooHigh, Unfinished};
 ghost use Rattle.fj_plain.specs.OrderRow.{order_in_row};
 ghost use Rattle.fj_basis.specs.Outcome.{IsStopWhere};
-ghost use Rattle.fj_session.specs.Answer.{IsShownBasis};
+ghost use Rattle.fj_ideal.specs.Stop.{key_of};
+ghost use Rattle.fj_session.specs.Meaning.{IsShownBasis};
 ghost use Rattle.fj_shell.specs.Named.{polynomials};
-ghost use Rattle.fj_session.specs.Outcome.{IsPrintStop};
-ghost use Rattle.fj_session.specs.Stop.{key_of};
+ghost use Rattle.fj_session.specs.Outcome.{IsKeptAgain, PrintStops};
 
-use fj_basis::Stop;
+use fj_basis::{Stop, plain_list};
 use fj_coeff::Coeff;
 use fj_ideal::Ideal;
-use fj_mono::{Elim, Grlex, Lex, Order};
-use fj_plain::{OrderName, PlainList};
-use fj_poly::{GPoly, Poly};
+use fj_mono::{Elim, Grevlex, Grlex, Lex, Order};
+use fj_plain::{Kept, OrderName, PlainList};
+use fj_poly::Poly;
 use std::alloc::{AllocError, Global};
 
 /// The polynomials of a plain list.
-pub(crate) fn from_plain<K: Coeff>(
+pub(crate) fn from_plain<K: Coeff, O: Order>(
     alloc: Global,
     list: &PlainList,
-) -> Result<Vec<GPoly<K>>, AllocError>
+) -> Result<Vec<Poly<K, O>>, AllocError>
     requires ranks { All (HasRanksBelow K.field.size) list.now }
     requires totals { All (λ g. All (λ t. total t.0 ≤ 2 ^ 40) g.terms) list.now }
     ensures { IfOk result (λ made. made.items ≡ polynomials list.now) }
@@ -35,21 +34,6 @@ pub(crate) fn from_plain<K: Coeff>(
     Ok(made)
 }
 
-/// The plain list of polynomials, the terms of each falling in their order.
-pub(crate) fn to_plain<K: Coeff, O: Order>(
-    alloc: Global,
-    list: &[Poly<K, O>],
-) -> Result<PlainList, AllocError>
-    ensures value { IfOk result (λ plain. polynomials plain ≡ list.now) }
-    ensures falling { IfOk result (All (λ h. h.terms ≡ terms_falling O.key (polynomial h))) }
-{
-    let mut plain = Vec::with_capacity(alloc, list.len())?;
-    for g in list {
-        plain.push(g.to_plain(alloc)?)?;
-    }
-    Ok(PlainList::of(plain))
-}
-
 /// The reduced basis of an ideal for the order with this name, calculated with at most so many turns of the members of its
 /// reduced Grevlex basis; for Grevlex these are the basis already.
 pub(crate) fn shown_basis<K: Coeff>(
@@ -59,12 +43,12 @@ pub(crate) fn shown_basis<K: Coeff>(
     budget: u64,
 ) -> Result<PlainList, Stop>
     ensures basis { IfOk result (IsShownBasis K.field (key_of order) ideal.now.given) }
-    ensures stop { IfErr result (IsPrintStop K.field order ideal.now.members budget) }
+    ensures stop { PrintStops K.field order ideal.now.members budget result }
 {
     match order {
         OrderName::Lex => ordered_basis::<K, Lex>(alloc, ideal, budget),
         OrderName::Grlex => ordered_basis::<K, Grlex>(alloc, ideal, budget),
-        OrderName::Grevlex => Ok(to_plain(alloc, ideal.members())?),
+        OrderName::Grevlex => Ok(plain_list(alloc, ideal.members())?),
         OrderName::Elim => ordered_basis::<K, Elim>(alloc, ideal, budget),
     }
 }
@@ -76,8 +60,39 @@ fn ordered_basis<K: Coeff, O: Order>(
     budget: u64,
 ) -> Result<PlainList, Stop>
     ensures basis { IfOk result (IsShownBasis K.field O.key ideal.now.given) }
-    ensures stop { IsStopWhere (Unfinished K.field O.key ideal.now.members budget) (TooHigh K.field O.key ideal.now.members budget) (order_in_row O.ROW) ideal.now.members result }
+    ensures stop { IsStopWhere K.field (Unfinished K.field O.key ideal.now.members budget) (TooHigh K.field O.key ideal.now.members budget) (order_in_row O.ROW) O.key ideal.now.members result }
 {
     let basis = ideal.in_order::<O>(alloc, budget)?;
-    Ok(to_plain(alloc, basis.members())?)
+    Ok(plain_list(alloc, basis.members())?)
+}
+
+/// What a stop keeps, the terms of its polynomials falling in the order with this name.
+pub(crate) fn shown_kept<K: Coeff>(
+    alloc: Global,
+    kept: &Kept,
+    order: OrderName,
+) -> Result<Kept, AllocError>
+    requires ranks { All (HasRanksBelow K.field.size) kept.now.list }
+    requires totals { All (λ g. All (λ t. total t.0 ≤ 2 ^ 40) g.terms) kept.now.list }
+    ensures { IfOk result (IsKeptAgain (key_of order) kept.now) }
+{
+    match order {
+        OrderName::Lex => ordered_kept::<K, Lex>(alloc, kept),
+        OrderName::Grlex => ordered_kept::<K, Grlex>(alloc, kept),
+        OrderName::Grevlex => ordered_kept::<K, Grevlex>(alloc, kept),
+        OrderName::Elim => ordered_kept::<K, Elim>(alloc, kept),
+    }
+}
+
+/// What a stop keeps, the terms of its polynomials falling in an order.
+fn ordered_kept<K: Coeff, O: Order>(alloc: Global, kept: &Kept) -> Result<Kept, AllocError>
+    requires ranks { All (HasRanksBelow K.field.size) kept.now.list }
+    requires totals { All (λ g. All (λ t. total t.0 ≤ 2 ^ 40) g.terms) kept.now.list }
+    ensures { IfOk result (IsKeptAgain O.key kept.now) }
+{
+    let list = from_plain::<K, O>(alloc, &kept.list)?;
+    Ok(Kept {
+        order: kept.order,
+        list: plain_list(alloc, &list)?,
+    })
 }

@@ -61,9 +61,11 @@ pub enum Answer {
     Ideal(PlainList),
     Yes,
     No,
-    /// The run on this list, which the question needs, made as many turns as its budget allows, and pairs are pending.
+    /// The run on this list, which the question needs, made as many turns as its budget allows, and pairs are pending. The
+    /// terms of the list fall in the printing order.
     StoppedPairs(Kept),
     /// A degree above 2^40 arises in the run on this list, which the question needs, or in a product of these polynomials.
+    /// Their terms fall in the printing order.
     StoppedHigh(Kept),
     /// Questions of this kind are left for later.
     Later,

@@ -1,21 +1,24 @@
-use Rattle.std.proofs.Common.{◌≡◌, inl, inr, sym, subst, refl}
+use Rattle.std.proofs.Common.{◌≡◌, ◌⊎◌, inl, inr, sym, subst, refl}
 use Rattle.std.specs.Prelude.{MatchOption}
 use Rattle.fj_theory.specs.Ideal.{SameIdeal}
 use Rattle.fj_theory.proofs.Ideal.{SameIdeal-refl}
 use Rattle.fj_ideal.specs.Ideal.{IsIdealOf}
-use Rattle.fj_script.specs.declared.question.Question.TheVariants as questions
+use Rattle.fj_ideal.specs.Lists.{NoProduct}
+use Rattle.fj_ideal.proofs.Lists.{polynomials_of_list}
 use Rattle.fj_shell.specs.Named.{ideal_at}
-use Rattle.fj_session.proofs.OwnStops.{own_handed_on, polynomials_of_list}
+use Rattle.fj_session.proofs.OwnStops.{own_handed_on}
 use Rattle.fj_session.proofs.ideals.are_same.Goals as goal
 
 pub returns-in_err-first-clause-stop : goal.returns-in_err-first-clause-stop
 returns-in_err-first-clause-stop g c =
-    own_handed_on g.K.Coeff.field c.args.env.now (questions.Same c.args.j c.args.k) c.args.budget (ideal_at c.args.env.now c.args.j) (inl refl)
+    let J = ideal_at c.args.env.now c.args.j in
+    own_handed_on g.K.Coeff.field c.args.budget (λ L. (L ≡ J) ⊎ (L ≡ ideal_at c.args.env.now c.args.k)) NoProduct J (inl refl)
     c.in_err-first.field-0.0 c.from_residual.result c.from_residual.ensures.1 c.in_err-first.ensures.stop
 
 pub returns-in_err-second-clause-stop : goal.returns-in_err-second-clause-stop
 returns-in_err-second-clause-stop g c =
-    own_handed_on g.K.Coeff.field c.args.env.now (questions.Same c.args.j c.args.k) c.args.budget (ideal_at c.args.env.now c.args.k) (inr refl)
+    let K = ideal_at c.args.env.now c.args.k in
+    own_handed_on g.K.Coeff.field c.args.budget (λ L. (L ≡ ideal_at c.args.env.now c.args.j) ⊎ (L ≡ K)) NoProduct K (inr refl)
     c.in_err-second.field-0.0 c.from_residual-in_err-second.result c.from_residual-in_err-second.ensures.1 c.in_err-second.ensures.stop
 
 pub returns-clause-verdict : goal.returns-clause-verdict

@@ -1,25 +1,23 @@
 use Rattle.std.proofs.Common.{◌⊎◌, inl, inr}
 use Rattle.fj_coeff.specs.PrimeField.{prime_field}
+use Rattle.fj_plain.specs.declared.lists.Kept.{Kept}
+use Rattle.fj_ideal.specs.Stop.{IsProductOf, IsTooHigh, kept_list}
 use Rattle.fj_script.specs.declared.question.Asked.{Asked}
 use Rattle.fj_script.specs.declared.script.Env.{Env}
-use Rattle.fj_plain.specs.declared.lists.Kept.{Kept}
 use Rattle.fj_session.specs.Answer.{IsAnswer}
-use Rattle.fj_session.specs.AnswerLaws.{IsStop, NothingStops}
-use Rattle.fj_shell.specs.Named.{polynomials}
-use Rattle.fj_session.specs.Statement.{IsHighProductOf, IsListOf}
-use Rattle.fj_session.specs.Stop.{IsProductOf, IsTooHigh}
+use Rattle.fj_session.specs.AnswerLaws.{IsStop, NothingStopsIt, meaning_in}
 use Rattle.fj_session.specs.declared.types.Answer.{Answer}
 use Rattle.fj_session.specs.declared.types.Answer.TheVariants.{Parts, Ideal, Yes, No, StoppedPairs, StoppedHigh, Later}
 use Rattle.fj_session.proofs.laws.stops_have_causes.Goals as goal
 
-module _ (env : Env) (asked : Asked) (none : NothingStops env asked) where
-  not_high : (k : Kept) → IsTooHigh (prime_field env.p) (IsListOf (prime_field env.p) env asked.question asked.order) asked.budget k ⊎ IsProductOf (IsHighProductOf (prime_field env.p) env asked.question) k → ⊥
-  not_high k (inl h) = none.low k.order (polynomials k.list) h.list h.high
-  not_high k (inr h) = none.products (polynomials k.list) h.polynomials_are
+module _ (env : Env) (asked : Asked) (none : NothingStopsIt env asked) where
+  not_high : (k : Kept) → IsTooHigh (prime_field env.p) (meaning_in env asked).lists asked.budget k ⊎ IsProductOf (meaning_in env asked).products k → ⊥
+  not_high k (inl h) = none.low k.order (kept_list k) h.list h.high
+  not_high k (inr h) = none.products (kept_list k) h.polynomials_are
 
   no_stop : (answer : Answer) → IsAnswer env asked answer → IsStop answer → ⊥
-  no_stop (StoppedPairs k) h stop = none.finished k.order (polynomials k.list) h.list h.unfinished
-  no_stop (StoppedHigh k) h stop = not_high k h
+  no_stop (StoppedPairs k) h stop = none.finished k.order (kept_list k) h.0.list h.0.unfinished
+  no_stop (StoppedHigh k) h stop = not_high k h.0
   no_stop (Parts rows) h stop = stop
   no_stop (Ideal list) h stop = stop
   no_stop Yes h stop = stop

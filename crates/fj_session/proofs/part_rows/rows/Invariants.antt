@@ -2,7 +2,7 @@ use Rattle.std.proofs.Common.{◌≡◌, All, map, take}
 use Rattle.fj_theory.specs.Plain.{polynomial}
 use Rattle.fj_theory.specs.Polynomial.{terms_falling}
 use Rattle.fj_root.specs.Part.{parts_of}
-use Rattle.fj_session.specs.Answer.{part_of}
+use Rattle.fj_session.specs.Meaning.{part_of}
 use Rattle.fj_session.proofs.part_rows.rows.Given as goal
 
 -- the rows of the first parts are there

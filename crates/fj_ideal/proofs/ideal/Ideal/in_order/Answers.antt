@@ -36,4 +36,4 @@ returns-clause-stop g c =
     let list_is : c.deref.result.now ≡ c.args.self.now.members = c.deref.ensures.value ∙ c.loop-g.invariant ∙ take_all c.loop-g.g-index c.members-members.result.now c.loop-g-test.false ∙ c.members-members.ensures.value in
     let F = g.K.Coeff.field in
     let key = g.O.Order.key in
-    subst (λ (L : List Polynomial). IsStopWhere (Unfinished F key L c.args.pairs) (TooHigh F key L c.args.pairs) (order_in_row g.O.Order.ROW) L c.basis.result) list_is c.basis.ensures.stop
+    subst (λ (L : List Polynomial). IsStopWhere F (Unfinished F key L c.args.pairs) (TooHigh F key L c.args.pairs) (order_in_row g.O.Order.ROW) key L c.basis.result) list_is c.basis.ensures.stop

@@ -24,7 +24,7 @@ returns-clause-members g c =
     (λ t. record { each = subst (All IsZero) c.members.ensures.value (law.0 t) }, λ z. law.1 (subst (All IsZero) (sym c.members.ensures.value) z.each))
 
 pub returns-clause-given : goal.returns-clause-given
-returns-clause-given g c = λ at.
-    let law = zeros_of_members g.met.K.Coeff.lawful c.members.ensures.ideal at in
+returns-clause-given g c =
+    let law = zeros_of_members g.met.K.Coeff.lawful c.members.ensures.ideal c.len.ensures.point in
     let zero = returns-clause-members g c in
     (λ t. law.0 (zero.0 t), λ z. zero.1 (law.1 z))
