@@ -8,7 +8,6 @@ ghost use Rattle.fj_session.specs.Outcome.{IsShown, PrintStops, StopsFor};
 ghost use Rattle.fj_session.specs.Statement.{meaning_of};
 
 use super::ideals::{are_same, declared, is_member, power, product, root, sum};
-use fj_shell::polynomial_at;
 use super::part_rows::part_rows;
 use super::shown::{shown_basis, shown_kept};
 use super::types::Answer;
@@ -16,6 +15,7 @@ use fj_basis::Stop;
 use fj_coeff::{Coeff, OverField, over_prime_field};
 use fj_ideal::Ideal;
 use fj_script::{Asked, Env, Question};
+use fj_shell::polynomial_at;
 use std::alloc::{AllocError, Global};
 
 /// The answer to a question of a session, over the prime field GF(p) of its ring.

@@ -14,7 +14,6 @@ ghost use Rattle.fj_shell.specs.Named.{ideal_at, polynomial_at};
 ghost use Rattle.fj_session.specs.Ideals.{IsHighOfPower, IsHighOfProduct, IsListOfPower, IsListOfProduct, IsListOfRoot, IsListOfSum};
 ghost use Rattle.fj_session.specs.Outcome.{IsIdealFor, OwnStops};
 
-use fj_shell::{generators_at, polynomial_at};
 use super::shown::from_plain;
 use fj_basis::Stop;
 use fj_coeff::Coeff;
@@ -22,6 +21,7 @@ use fj_frobenius::{frobenius_power, frobenius_root};
 use fj_ideal::Ideal;
 use fj_poly::Poly;
 use fj_script::Env;
+use fj_shell::{generators_at, polynomial_at};
 use std::alloc::Global;
 
 /// The ideal of the generators as declared.
