@@ -20,7 +20,7 @@ use Rattle.fj_ideal.proofs.ReducedBasis.{ArePolynomials-members, SameIdeal-membe
 use Rattle.fj_elim.specs.Lists.{IsEliminated}
 
 module _ {F : Field} (L : IsField F) {G H N : List Polynomial} (A : ArePolynomials F G) (B : ArePolynomials F H) (e : IsEliminated F G H N) where
-  basis_is : IsReducedBasis F elim_key (elimination_list F G H) e.basis
+  pub basis_is : IsReducedBasis F elim_key (elimination_list F G H) e.basis
   basis_is = subst (λ M. IsReducedBasis F elim_key M e.basis) e.formed.is e.reduced
 
   eliminates : Eliminates F (elimination_list F G H) e.basis

@@ -105,10 +105,10 @@ quotient_of_multiple {F} L {g} {h} P some m {M} e {quotients} {r} D =
 
 module _ (F : Field) (A : List Polynomial) where
   -- The lists by one member are among those by more.
-  no_more : {g h : Polynomial} (before after : List Polynomial) → g ∷ [] ≡ before ++ h ∷ after → before ≢ [] → ⊥
-  no_more [] after e some = some refl
-  no_more (x ∷ []) after e some = let l = ap length e in absurd (omega (arith, l))
-  no_more (x ∷ y ∷ before) after e some = let l = ap length e in absurd (omega (arith, l))
+  no_more : {g : Polynomial} (h : Polynomial) (before after : List Polynomial) → g ∷ [] ≡ before ++ h ∷ after → before ≢ [] → ⊥
+  no_more h [] after e some = some refl
+  no_more h (x ∷ []) after e some = let l = ap length e in absurd (omega (arith, l))
+  no_more h (x ∷ y ∷ before) after e some = let l = ap length e in absurd (omega (arith, l))
 
   met_of_one : {B G H : List Polynomial} {g : Polynomial} → Contains B g → IsMetInColon F A (g ∷ []) G H → IsMetInColon F A B G H
   met_of_one {B} {G} {H} {g} there (by_member h c some a b) = by_member h (one there c) some a b
@@ -116,7 +116,7 @@ module _ (F : Field) (A : List Polynomial) where
       one : Contains B g → Contains (g ∷ []) h → Contains B h
       one t (zero, l, e) = subst (Contains B) e t
       one t (suc n, l, e) = absurd (omega (arith, l))
-  met_of_one there (so_far before after h is some G H) = absurd (no_more before after is some)
+  met_of_one there (so_far before after h is some G H) = absurd (no_more h before after is some)
 
   module _ (B : List Polynomial) (g : Polynomial) (there : Contains B g) where
     pub lists_of_one : (o : OrderName) (M : List Polynomial) → IsColonList F A (g ∷ []) o M → IsColonList F A B o M
@@ -150,7 +150,7 @@ module _ (F : Field) (A : List Polynomial) where
   given_of_more (x ∷ y ∷ before) g N some c = c
 
 -- The members before a place, the one there, and those after.
-pub split_at : (B : List Polynomial) (k : ℕ) (g : Polynomial) → k < length B → g ≡ get_or B k g → B ≡ take k B ++ g ∷ drop (k + 1) B
+pub split_at : (B : List Polynomial) (k : ℕ) (g : Polynomial) → k < length B → g ≡ get_or B k g → B ≡ take k B ++ g ∷ drop (suc k) B
 split_at [] k g l e = absurd (omega (arith, l))
 split_at (x ∷ B) zero g l e = ap (λ y. y ∷ B) (sym e)
 split_at (x ∷ B) (suc k) g l e = ap (λ ys. x ∷ ys) (split_at B k g (omega (arith, l)) e)
