@@ -44,10 +44,7 @@ pub(crate) fn plain_table<K: Coeff, O: Order>(
 }
 
 /// The polynomials of a list as plain ones, with their order, as a stop keeps them.
-pub fn kept<K: Coeff, O: Order>(
-    alloc: Global,
-    list: &[Poly<K, O>],
-) -> Result<Kept, AllocError>
+pub fn kept<K: Coeff, O: Order>(alloc: Global, list: &[Poly<K, O>]) -> Result<Kept, AllocError>
     ensures { IfOk result (IsKeptOf K.field (order_in_row O.ROW) O.key list.now) }
 {
     Ok(Kept {

@@ -162,3 +162,7 @@ some_before (x ∷ B) (suc k) p l e = let n = ap length e in omega (arith, n)
 
 pub one_more : (B : List Polynomial) (k : ℕ) (g : Polynomial) → k < length B → g ≡ get_or B k g → take (k + 1) B ≡ take k B ++ g ∷ []
 one_more B k g l e = ap (λ n. take n B) (add-one k) ∙ take-suc B k g l ∙ ap (λ h. take k B ++ h ∷ []) (sym e)
+
+pub some_member : (B : List Polynomial) → B ≢ [] → 0 < length B
+some_member [] some = absurd (some refl)
+some_member (x ∷ B) some = omega arith

@@ -10,7 +10,7 @@ ghost use Rattle.fj_ideal.specs.Ideal.{IsIdeal, of_itself};
 ghost use Rattle.fj_ideal.specs.Stop.{StopsOnlyWith};
 ghost use Rattle.fj_elim.specs.Lists.{IsColonGiven, IsColonList, IsHighInColon, IsQuotientList};
 
-use crate::elimination::eliminated;
+use crate::elimination::{eliminated, meet};
 use fj_basis::{Stop, divide};
 use fj_coeff::Coeff;
 use fj_ideal::Ideal;
@@ -93,4 +93,41 @@ pub fn colon_by<K: Coeff>(
     let multiples = eliminated(alloc, members, slice::from_ref(g), pairs)?;
     let list = quotients(alloc, &multiples, g)?;
     Ideal::of_owned(alloc, list, pairs)
+}
+
+/// The quotient of two ideals in the first seven variables, by elimination of the eighth, t, with at most `pairs` turns in
+/// each run (Cox, Little and O'Shea 2015, chapter 4, section 4). By zero it is the unit ideal, made of [1] without a run.
+///
+/// It is the meet of the quotients by the members of the second ideal, taken one after another: each as in `colon_by`, and
+/// from the second on the meet, as in `meet`, of the quotient so far with that by the next member. By one member the
+/// quotient is made of the last list of `colon_by`, by more of the members without t of the last meet. `Product` only where
+/// a product that is formed on the way has a term of total degree above 2^40, and it keeps the one factor that isn't t or
+/// 1 - t. `Pairs` only where that many turns were made on one of the lists and pairs are pending, `High` only where a sugar
+/// above 2^40 arises in the run on one. Both keep this list.
+pub fn colon<K: Coeff>(
+    alloc: Global,
+    a: &Ideal<K>,
+    b: &Ideal<K>,
+    pairs: u64,
+) -> Result<Ideal<K>, Stop>
+    requires first { All (UsesFirst 7) a.now.members }
+    requires second { All (UsesFirst 7) b.now.members }
+    ensures colon { IfOk result (λ J. IsColon K.field a.now.given b.now.given J.given) }
+    ensures ideal { IfOk result (IsIdeal K.field) }
+    ensures given { IfOk result (λ J. IsColonGiven K.field a.now.members b.now.members J.given) }
+    ensures variables { IfOk result (λ J. All (UsesFirst 7) J.members) }
+    ensures stop { StopsOnlyWith K.field (IsColonList K.field a.now.members b.now.members) (IsHighInColon K.field a.now.members b.now.members) pairs result }
+{
+    // What is given of the first ideal are polynomials.
+    let _ = a.given();
+    let members = b.members();
+    if b.is_zero() {
+        return Ok(unit(alloc)?);
+    }
+    let mut colon = colon_by(alloc, a, &members[0], pairs)?;
+    for k in 1..members.len() {
+        let next = colon_by(alloc, a, &members[k], pairs)?;
+        colon = meet(alloc, &colon, &next, pairs)?;
+    }
+    Ok(colon)
 }

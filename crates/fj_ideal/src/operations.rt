@@ -17,11 +17,7 @@ use fj_poly::{GPoly, PolyFault};
 use std::alloc::{AllocError, Global};
 
 /// The two polynomials of a product that is too high, as a stop keeps them.
-pub fn kept_pair<K: Coeff>(
-    alloc: Global,
-    g: &GPoly<K>,
-    h: &GPoly<K>,
-) -> Result<Kept, AllocError>
+pub fn kept_pair<K: Coeff>(alloc: Global, g: &GPoly<K>, h: &GPoly<K>) -> Result<Kept, AllocError>
     ensures { IfOk result (IsKeptOf K.field orders.Grevlex grevlex_key (g.now ∷ h.now ∷ [])) }
 {
     kept(alloc, &vec![in alloc; g.copy(alloc)?, h.copy(alloc)?]?)

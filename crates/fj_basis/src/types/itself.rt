@@ -27,10 +27,7 @@ impl<K: Coeff, O: Order> Basis<K, O> {
 }
 
 // The cofactors of a list over itself.
-fn unit_rows<K: Coeff, O: Order>(
-    alloc: Global,
-    count: usize,
-) -> Result<Vec<Row<K, O>>, AllocError>
+fn unit_rows<K: Coeff, O: Order>(alloc: Global, count: usize) -> Result<Vec<Row<K, O>>, AllocError>
     ensures { IfOk result (λ rows. map (λ row. row.items) rows.items ≡ unit_rows count) }
 {
     let mut rows = Vec::with_capacity(alloc, count)?;

@@ -25,8 +25,7 @@ invariant_of-result g c =
     let l = AreRows-long F members members (unit_rows n) rows in
     let w = AreRows-wide F members members (unit_rows n) rows in
     let down : map (λ row. row.items) c.in_ok-down.down.items ≡ unit_rows n = c.in_ok-down.ensures ∙ ap unit_rows (c.len.ensures ∙ c.args.members.ok.0) in
-    let up : map (λ row. row.items) c.in_ok-up.up.items ≡ unit_rows n = c.in_ok-up.ensures ∙ ap unit_rows (c.len-2.ensures ∙ c.args.members.ok.0) in
-    (
+    let up : map (λ row. row.items) c.in_ok-up.up.items ≡ unit_rows n = c.in_ok-up.ensures ∙ ap unit_rows (c.len-2.ensures ∙ c.args.members.ok.0) in (
       long (λ row. row.items) c.in_ok-down.down.items n down l,
       wide (λ row. row.items) c.in_ok-down.down.items n (length c.in_ok-up.up.items) down w (long (λ row. row.items) c.in_ok-up.up.items n up l),
       wide (λ row. row.items) c.in_ok-up.up.items n n up w refl,
