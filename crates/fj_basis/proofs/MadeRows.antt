@@ -1,5 +1,7 @@
 -- The cofactors of a basis both ways, and the run that is finished with it.
-use Rattle.std.proofs.Common.{◌≡◌, ℕ, suc, List, [], ◌∷◌, length, map, All, Any, Contains, refl, sym, ap, ◌∙◌, subst, subst₂}
+use Rattle.std.proofs.Common.{◌≡◌, ℕ, ◌+◌, ◌<◌, suc, List, [], ◌∷◌, length, get_or, map, All, Any, Contains, refl, sym, ap, ◌∙◌, subst, subst₂, arith}
+use Rattle.std.specs.FinMap.{empty}
+use Rattle.std.specs.List.{range_with_len}
 use Rattle.std.proofs.lemmas.List.{length-map}
 use Rattle.std.proofs.lemmas.List.Elements.{All-nil, All-cons, All-head, All-tail}
 use Rattle.fj_coeff.specs.Field.{Field, IsField}
@@ -15,12 +17,12 @@ use Rattle.fj_groebner.specs.Run as definition
 use Rattle.fj_groebner.proofs.Division.{IsDivision-length, IsDivision-quotients, Member-IsDivision, division_identity}
 use Rattle.fj_groebner.proofs.Finishing.{IsFinished-IsReducedBasis}
 use Rattle.fj_theory.proofs.Ideal.{Member-elements}
-use Rattle.fj_theory.proofs.IdealBridge.{ArePolynomials-head, ArePolynomials-tail}
-use Rattle.fj_theory.proofs.PolynomialRing.{sum_empty}
-use Rattle.fj_groebner.proofs.Rows.{IsPolynomial-list_combination}
+use Rattle.fj_theory.proofs.IdealBridge.{ArePolynomials-head, ArePolynomials-tail, IsPolynomial-one}
+use Rattle.fj_theory.proofs.PolynomialRing.{product_comm, product_one, sum_empty}
+use Rattle.fj_groebner.proofs.Rows.{IsPolynomial-list_combination, IsRow-one}
 use Rattle.fj_basis.specs.declared.members.Member as code
 use Rattle.fj_basis.specs.declared.run.Run as code_run
-use Rattle.fj_basis.specs.Basis.{IsMadeOf, IsResult, WithCofactors}
+use Rattle.fj_basis.specs.Basis.{IsMadeOf, IsResult, WithCofactors, unit_row, unit_rows}
 use Rattle.fj_basis.specs.Finished.{AreMembersOfRun, AreQuotients, IsHighReplacing, IsQuotients}
 use Rattle.fj_basis.specs.Members.{IsTraced, sugared_members}
 use Rattle.fj_basis.specs.State.{ArePending, IsEnded}
@@ -165,3 +167,23 @@ module _ {K O : Type 0} {F : Field} (L : IsField F) {key : List ℕ → List ℕ
         down = subst₂ (AreRows F M) (polynomials-sugared basis ∙ sym members_are) (sym down) (traced-AreRows L basis traced);
         up = subst₂ (λ G rows. AreRows F G M rows) (polynomials-sugared basis ∙ sym members_are) (sym up) ended-up;
       }
+
+-- A list is made of itself by the unit rows.
+module _ {F : Field} (L : IsField F) (N : List Polynomial) (A : ArePolynomials F N) where
+  IsRow-unit : (k : ℕ) → k < length N → IsRow F N (get_or N k empty) (unit_row (length N) k)
+  IsRow-unit k l =
+      let P = A.each k empty l in
+      let U = IsPolynomial-one L in
+      subst (λ f. IsRow F N f (unit_row (length N) k)) (product_comm L U P ∙ product_one L P) (IsRow-one L U N k A l)
+
+  rows_from : (G : List Polynomial) (k : ℕ) → k + length G ≡ length N → ((i : ℕ) → i < length G → get_or G i empty ≡ get_or N (k + i) empty)
+      → AreRows F N G (map (unit_row (length N)) (range_with_len k (length G)))
+  unfolding AreRows
+  rows_from [] k e same = tt
+  rows_from (g ∷ G) k e same = (
+    subst (λ f. IsRow F N f (unit_row (length N) k)) (sym (same 0 (omega arith) ∙ ap (λ n. get_or N n empty) (omega arith))) (IsRow-unit k (omega (arith, e))),
+    rows_from G (k + 1) (omega (arith, e)) (λ i l. same (suc i) (omega (arith, l)) ∙ ap (λ n. get_or N n empty) (omega arith)),
+  )
+
+  pub AreRows-unit_rows : AreRows F N N (unit_rows (length N))
+  AreRows-unit_rows = rows_from N 0 (omega arith) (λ i l. ap (λ n. get_or N n empty) (omega arith))

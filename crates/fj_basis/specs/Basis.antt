@@ -1,10 +1,12 @@
 -- A basis with cofactors both ways.
-use Rattle.std.specs.Prelude.{◌≡◌, ℕ, List, [], map, slice_index_or}
+use Rattle.std.specs.Prelude.{◌≡◌, ℕ, List, [], map, replicate, set, slice_index_or}
+use Rattle.std.specs.List.{range_with_len}
 use Rattle.std.specs.FinMap.{empty, code}
 use Rattle.std.specs.Coded.{Coded, coded_list, coded×, coded_ℕ}
 use base.Stored.{coded_via}
 use Rattle.fj_coeff.specs.Field.{Field}
-use Rattle.fj_theory.specs.Polynomial.{Polynomial}
+use Rattle.fj_theory.specs.Exponents.{origin}
+use Rattle.fj_theory.specs.Polynomial.{Polynomial, term}
 use Rattle.fj_theory.specs.Plain.{PlainPolynomial, polynomial}
 use Rattle.fj_groebner.specs.Rows.{AreRows}
 use Rattle.fj_groebner.specs.Division.{Sugared, polynomials_of}
@@ -22,6 +24,13 @@ pub record WithCofactors : Type 0 where
 -- The cofactor at the place j of row i.
 abbrev pub cofactor : List (List Polynomial) → ℕ → ℕ → Polynomial
 cofactor rows i j = slice_index_or (slice_index_or rows i []) j empty
+
+-- The cofactors of a list of n polynomials over itself: 1 at the place of the polynomial, and 0 elsewhere.
+abbrev pub unit_row : ℕ → ℕ → List Polynomial
+unit_row n j = set (replicate n empty) j (term 1 origin)
+
+abbrev pub unit_rows : ℕ → List (List Polynomial)
+unit_rows n = map (unit_row n) (range_with_len 0 n)
 
 -- The rows give the members as combinations of the list L, and the polynomials of L as combinations of the members.
 pub record IsMadeOf (F : Field) (L : List Polynomial) (b : WithCofactors) : Type 0 where

@@ -4,6 +4,7 @@ ghost use Rattle.fj_plain.specs.OrderRow.{order_in_row};
 ghost use Rattle.fj_basis.specs.Basis.{IsCertificateOf, IsMadeOf, cofactor};
 
 mod copy;
+mod itself;
 
 use crate::certificate::{plain_list, plain_table};
 use crate::members::{Member, Row};

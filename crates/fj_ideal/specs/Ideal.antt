@@ -1,5 +1,5 @@
 -- An ideal as the code keeps it: the list that it was made of, the reduced Grevlex basis, and the cofactors both ways.
-use Rattle.std.specs.Prelude.{◌≡◌, List}
+use Rattle.std.specs.Prelude.{◌≡◌, List, length}
 use Rattle.std.specs.FinMap.{code}
 use Rattle.std.specs.Coded.{Coded, coded_list, coded×, coded_ℕ}
 use base.Stored.{coded_via}
@@ -8,7 +8,7 @@ use Rattle.fj_theory.specs.MonomialOrder.{grevlex_key}
 use Rattle.fj_theory.specs.Polynomial.{Polynomial}
 use Rattle.fj_theory.specs.Ideal.{ArePolynomials}
 use Rattle.fj_groebner.specs.ReducedBasis.{IsReducedBasis}
-use Rattle.fj_basis.specs.Basis.{WithCofactors, IsMadeOf, basis_code}
+use Rattle.fj_basis.specs.Basis.{WithCofactors, IsMadeOf, basis_code, unit_rows}
 
 -- The list that the ideal was made of, the members of its basis, the cofactors of the given polynomials in each member,
 -- and those of the members in each given polynomial.
@@ -21,6 +21,10 @@ pub record WithBasis : Type 0 where
 -- The basis with its cofactors.
 abbrev pub basis_of : WithBasis → WithCofactors
 basis_of J = record { members = J.members; down = J.down; up = J.up }
+
+-- A list as the basis of its own ideal: it was made of itself, with the cofactors 1 and 0.
+abbrev pub of_itself : List Polynomial → WithBasis
+of_itself L = record { given = L; members = L; down = unit_rows (length L); up = unit_rows (length L) }
 
 -- The members are the reduced Grevlex basis of the ideal of the given polynomials, and the rows give each list as
 -- combinations of the other.

@@ -3,6 +3,7 @@ ghost use Rattle.std.specs.FinMap.{empty};
 ghost use Rattle.fj_theory.specs.Evaluation.{IsZeroOf, value};
 ghost use Rattle.fj_theory.specs.Exponents.{origin};
 ghost use Rattle.fj_theory.specs.Ideal.{ArePolynomials, SameIdeal, Member};
+ghost use Rattle.fj_theory.specs.MonomialOrder.{grevlex_key};
 ghost use Rattle.fj_theory.specs.Polynomial.{term};
 ghost use Rattle.fj_groebner.specs.ReducedBasis.{IsReducedBasis};
 ghost use Rattle.fj_groebner.specs.Run.{TooHigh, Unfinished};
@@ -11,7 +12,7 @@ ghost use Rattle.fj_plain.specs.OrderRow.{order_in_row};
 ghost use Rattle.fj_plain.specs.declared.order_name.OrderName.TheVariants as orders;
 ghost use Rattle.fj_basis.specs.Basis.{IsCertificateOf, IsMadeOf, cofactor};
 ghost use Rattle.fj_basis.specs.Outcome.{IsStopWhere};
-ghost use Rattle.fj_ideal.specs.Ideal.{IsIdeal, IsIdealOf, basis_of};
+ghost use Rattle.fj_ideal.specs.Ideal.{IsIdeal, IsIdealOf, basis_of, of_itself};
 ghost use Rattle.fj_ideal.specs.Lists.{NoProduct, RunFor};
 ghost use Rattle.fj_ideal.specs.Stop.{StopsExactlyWith};
 
@@ -65,6 +66,18 @@ impl<K: Coeff> Ideal<K> {
     {
         look_over(&given);
         let basis = basis(alloc, &given, pairs)?;
+        Ok(Ideal { given, basis })
+    }
+
+    /// The ideal of a list that is its own reduced Grevlex basis. The list is what it was made of, and has the members; the
+    /// cofactors are 1 at the place of each and 0 elsewhere. Nothing is run.
+    pub fn of_reduced(alloc: Global, list: Vec<GPoly<K>>) -> Result<Ideal<K>, AllocError>
+        requires { IsReducedBasis K.field grevlex_key list.items list.items }
+        ensures value { IfOk result (λ J. J ≡ of_itself list.items) }
+        ensures ideal { IfOk result (IsIdeal K.field) }
+    {
+        let given = copy_list(alloc, &list)?;
+        let basis = Basis::of_itself(alloc, list)?;
         Ok(Ideal { given, basis })
     }
 

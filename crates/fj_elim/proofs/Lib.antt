@@ -1,0 +1,4 @@
+pub mod Eighth
+pub mod Products
+pub mod Meets
+pub mod Quotients
