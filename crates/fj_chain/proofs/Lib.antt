@@ -1,0 +1,4 @@
+pub mod Chains
+pub mod ChainLists
+pub mod PeriodBound
+pub mod StepLists
