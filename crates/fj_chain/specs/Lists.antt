@@ -103,15 +103,15 @@ pub record IsMultipleList (F : Field) (k : ℕ) (f : Polynomial) (G L : List Pol
 -- The lists of a limit at t > 0, from (h): with t = k + t', [h], the lists of the steps for the digits of t', and where k > 0
 -- that of the multiples by f^k.
 pub data IsLimitList (F : Field) (f : Polynomial) (t : Fraction) (h : Polynomial) (L : List Polynomial) : Type 0 where
-  first : L ≡ h ∷ [] → IsLimitList F f t h L
-  step : (k : ℕ) (d : Expansion) → IsWholeAndDigits F.characteristic t k d → IsListOfStep F f (IsStepOfLimit F f d (h ∷ [])) L → IsLimitList F f t h L
-  whole : (k : ℕ) (d : Expansion) → IsWholeAndDigits F.characteristic t k d → 0 < k → (N : List Polynomial) → LimitLeadsTo F f d (h ∷ []) N
+  first_list : L ≡ h ∷ [] → IsLimitList F f t h L
+  step_list : (k : ℕ) (d : Expansion) → IsWholeAndDigits F.characteristic t k d → IsListOfStep F f (IsStepOfLimit F f d (h ∷ [])) L → IsLimitList F f t h L
+  whole_list : (k : ℕ) (d : Expansion) → IsWholeAndDigits F.characteristic t k d → 0 < k → (N : List Polynomial) → LimitLeadsTo F f d (h ∷ []) N
       → OfBasis F N (λ G. IsMultipleList F k f G L) → IsLimitList F f t h L
 
 -- L is f with a polynomial g, of a product that is formed for a limit at t > 0 and has a term of a total degree above 2^40.
 pub data IsHighInLimit (F : Field) (f : Polynomial) (t : Fraction) (h : Polynomial) (L : List Polynomial) : Type 0 where
-  step : (k : ℕ) (d : Expansion) → IsWholeAndDigits F.characteristic t k d → IsHighInStep F f (IsStepOfLimit F f d (h ∷ [])) L → IsHighInLimit F f t h L
-  whole : (k : ℕ) (d : Expansion) → IsWholeAndDigits F.characteristic t k d → 0 < k → (N : List Polynomial) → LimitLeadsTo F f d (h ∷ []) N
+  step_product : (k : ℕ) (d : Expansion) → IsWholeAndDigits F.characteristic t k d → IsHighInStep F f (IsStepOfLimit F f d (h ∷ [])) L → IsHighInLimit F f t h L
+  whole_product : (k : ℕ) (d : Expansion) → IsWholeAndDigits F.characteristic t k d → 0 < k → (N : List Polynomial) → LimitLeadsTo F f d (h ∷ []) N
       → OfBasis F N (λ G. IsHighMultiple F k f G L) → IsHighInLimit F f t h L
 
 -- L is N where k is zero, and else the list of its multiples by f^k.
@@ -139,8 +139,8 @@ pub record IsHighInTest (F : Field) (f : Polynomial) (t : Fraction) (L : List Po
 
 -- L is the last one of the test lists.
 pub data IsLastTestList (F : Field) (f : Polynomial) (t : Fraction) (L : List Polynomial) : Type 0 where
-  at_zero : t.numerator ≡ 0 → L ≡ term 1 origin ∷ [] → IsLastTestList F f t L
-  above_zero : 0 < t.numerator → IsLastLimitList F f t f L → IsLastTestList F f t L
+  last_at_zero : t.numerator ≡ 0 → L ≡ term 1 origin ∷ [] → IsLastTestList F f t L
+  last_above_zero : 0 < t.numerator → IsLastLimitList F f t f L → IsLastTestList F f t L
 
 -- The left lists of f and t: those of the limit from (1).
 abbrev pub IsLeftList : Field → Polynomial → Fraction → List Polynomial → Type 0

@@ -3,7 +3,10 @@
 #![tactic(auto)]
 
 mod chain;
+mod limits;
+mod multiples;
 mod steps;
 
 pub use chain::{falling, rising};
+pub use limits::{is_jump, left_limit, test_ideal};
 pub use steps::step;
