@@ -1,11 +1,11 @@
 -- Chains of lists are chains of ideals.
-use Rattle.std.proofs.Common.{◌≡◌, ℕ, zero, suc, ◌+◌, ◌<◌, ◌≤◌, ◌^◌, List, [], ◌∷◌, ◌++◌, length, length-append, All, Some, sym, ap, ◌∙◌, subst, refl, arith}
+use Rattle.std.proofs.Common.{◌≡◌, ℕ, zero, suc, ◌+◌, ◌<◌, ◌≤◌, List, [], ◌∷◌, ◌++◌, length, length-append, All, Some, sym, subst, refl, arith}
 use Rattle.fj_coeff.specs.Field.{Field, IsField}
 use Rattle.fj_algebra.specs.StrictSteps.{monomial_count}
 use Rattle.fj_theory.specs.Exponents.{origin}
 use Rattle.fj_theory.specs.MonomialOrder.{IsMonomialOrder, grevlex_key}
-use Rattle.fj_theory.specs.Polynomial.{Polynomial, IsPolynomial, degree, power, term}
-use Rattle.fj_theory.specs.Ideal.{ArePolynomials, SameIdeal, multiples}
+use Rattle.fj_theory.specs.Polynomial.{Polynomial, IsPolynomial, degree, term}
+use Rattle.fj_theory.specs.Ideal.{ArePolynomials, SameIdeal}
 use Rattle.fj_theory.proofs.Keys.{grevlex_key-IsMonomialOrder}
 use Rattle.fj_theory.proofs.Ideal.{ArePolynomials-multiples, SameIdeal-multiples, SameIdeal-refl, SameIdeal-sym}
 use Rattle.fj_theory.proofs.IdealBridge.{ArePolynomials-single, IsPolynomial-one}
@@ -14,7 +14,7 @@ use Rattle.fj_theory.proofs.Root.{IsRoot-SameIdeal}
 use Rattle.fj_groebner.proofs.ReducedBasis.{IsReducedBasis_polynomials, IsReducedBasis-SameIdeal}
 use Rattle.fj_testideal.specs.BoundedIdeal.{number_of, occurs_in}
 use Rattle.fj_testideal.specs.Chain.{FollowsDigits, IsChain, IsLimit, IsNumberOfFallingPeriods, IsNumberOfRisingPeriods, IsStep, Repeats, chain_at}
-use Rattle.fj_testideal.proofs.Chain.{ArePolynomials-FollowsDigits, FollowsDigits-same, IsChain-push, IsLimit-same, Repeats-push}
+use Rattle.fj_testideal.proofs.Chain.{ArePolynomials-FollowsDigits, IsChain-push, IsLimit-same, Repeats-push}
 use Rattle.fj_testideal.proofs.NumberOfPeriods.{few_periods, tells_number}
 use Rattle.fj_root.proofs.Roots.{IsRoot-ArePartsOf}
 use Rattle.fj_chain.specs.Lists.{ChainEndsWith, IsNextList, LeadTo, PeriodsLeadTo}

@@ -1,5 +1,5 @@
 -- Why a limit stops.
-use Rattle.std.proofs.Common.{◌≡◌, inl, inr, ℕ, zero, suc, arith, ◌<◌, List, [], ◌∷◌, Result, subst}
+use Rattle.std.proofs.Common.{◌≡◌, inl, inr, ℕ, zero, suc, arith, ◌<◌, List, [], ◌∷◌, Result}
 use Rattle.std.specs.Result.{IsErrAnd}
 use Rattle.fj_coeff.specs.Field.{Field}
 use Rattle.fj_theory.specs.Digits.{Expansion}

@@ -1,10 +1,9 @@
 -- Steps one after another, and why one of them stops.
-use Rattle.std.proofs.Common.{◌≡◌, ℕ, ◌+◌, ◌-◌, ◌<◌, ◌≤◌, List, [], ◌∷◌, ◌++◌, length, take, get_or, Result, sym, ap, ◌∙◌, subst, append_assoc, refl, arith}
+use Rattle.std.proofs.Common.{◌≡◌, ℕ, ◌+◌, ◌-◌, ◌≤◌, List, [], ◌∷◌, ◌++◌, length, take, get_or, Result, sym, ap, ◌∙◌, append_assoc, arith}
 use Rattle.std.specs.Result.{IsErrAnd}
 use Rattle.std.proofs.lemmas.List.{take_all, take_more}
 use Rattle.fj_coeff.specs.Field.{Field}
 use Rattle.fj_theory.specs.Polynomial.{Polynomial}
-use Rattle.fj_plain.specs.declared.order_name.OrderName.{OrderName}
 use Rattle.fj_plain.specs.declared.order_name.OrderName.TheVariants.{Grevlex}
 use Rattle.fj_basis.specs.declared.stop.Stop.{Stop}
 use Rattle.fj_ideal.specs.Ideal.{IsIdeal, WithBasis}

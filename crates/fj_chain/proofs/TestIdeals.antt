@@ -1,11 +1,11 @@
 -- The last list of a limit generates the test ideal, and the left limit.
-use Rattle.std.proofs.Common.{◌≡◌, ◌↔◌, Bool, true, false, true≢false, not, IsTrue, refl, ℕ, zero, suc, ◌+◌, ◌*◌, ◌<◌, ◌≤◌, List, [], ◌∷◌, sym, ap, subst, arith}
+use Rattle.std.proofs.Common.{◌≡◌, ◌↔◌, Bool, true, false, true≢false, not, IsTrue, refl, ℕ, zero, suc, ◌+◌, ◌*◌, ◌<◌, List, sym, ap, subst, arith}
 use Rattle.fj_coeff.specs.Field.{Field, IsField}
 use Rattle.fj_theory.specs.Exponents.{origin}
 use Rattle.fj_theory.specs.Fraction.{Fraction, SameValue, plus_whole}
-use Rattle.fj_theory.specs.Ideal.{ArePolynomials, SameIdeal, multiples}
+use Rattle.fj_theory.specs.Ideal.{ArePolynomials}
 use Rattle.fj_theory.specs.MonomialOrder.{IsMonomialOrder, grevlex_key}
-use Rattle.fj_theory.specs.Polynomial.{Polynomial, IsPolynomial, power, term}
+use Rattle.fj_theory.specs.Polynomial.{Polynomial, IsPolynomial, term}
 use Rattle.fj_theory.proofs.Ideal.{ArePolynomials-multiples, SameIdeal-multiples}
 use Rattle.fj_theory.proofs.IdealBridge.{ArePolynomials-single, IsPolynomial-one}
 use Rattle.fj_theory.proofs.Keys.{grevlex_key-IsMonomialOrder}
@@ -14,7 +14,7 @@ use Rattle.fj_groebner.proofs.ReducedBasis.{IsReducedBasis_polynomials, IsReduce
 use Rattle.fj_testideal.specs.TestIdeal.{IsLeftLimit, IsTestIdeal}
 use Rattle.fj_testideal.proofs.ChainLimit.{left_limit-from_digits, test_ideal-from_digits}
 use Rattle.fj_testideal.proofs.TestIdeal.{IsLeftLimit-SameIdeal, IsLeftLimit-SameValue, IsTestIdeal-SameIdeal, IsTestIdeal-SameValue, left_limit-plus_whole, test_ideal-plus_whole}
-use Rattle.fj_chain.specs.Lists.{IsLastLimitList, IsWholeAndDigits, IsWholeMultiple, LimitLeadsTo}
+use Rattle.fj_chain.specs.Lists.{IsLastLimitList, IsWholeMultiple}
 use Rattle.fj_chain.proofs.Chains.{ArePolynomials-end, ArePolynomials-LeadTo, LeadTo-FollowsDigits, chain_limit}
 
 -- Adding zero doesn't change the value.

@@ -1,6 +1,6 @@
 -- The lists that the chains of a polynomial f run, and the products that they form, over a field F. The digits of a number come
 -- the highest first, as those of `Digits`, and the last one is used first.
-use Rattle.std.specs.Prelude.{◌≡◌, ◌⊎◌, ℕ, zero, suc, ◌+◌, ◌<◌, List, [], ◌∷◌, ◌++◌}
+use Rattle.std.specs.Prelude.{◌≡◌, ◌⊎◌, ℕ, zero, suc, ◌<◌, List, [], ◌∷◌, ◌++◌}
 use Rattle.fj_coeff.specs.Field.{Field}
 use Rattle.fj_theory.specs.Exponents.{origin}
 use Rattle.fj_theory.specs.Polynomial.{Polynomial, power, term}

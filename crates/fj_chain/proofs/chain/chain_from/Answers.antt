@@ -1,5 +1,4 @@
-use Rattle.std.proofs.Common.{◌≡◌, ◌<◌, All, ℕ, List, [], ◌∷◌, true≢false, sym, ◌∙◌, subst, refl, arith}
-use Rattle.fj_theory.specs.Polynomial.{Polynomial}
+use Rattle.std.proofs.Common.{◌<◌, All, ℕ, List, [], ◌∷◌, true≢false, sym, ◌∙◌, subst, refl, arith}
 use Rattle.fj_theory.proofs.Ideal.{SameIdeal-sym}
 use Rattle.fj_plain.specs.declared.order_name.OrderName.TheVariants.{Grevlex}
 use Rattle.fj_ideal.specs.Lists.{RunFor}

@@ -1,9 +1,7 @@
-use Rattle.std.proofs.Common.{◌≡◌, List, [], ◌∷◌, ◌+◌, ◌≤◌, IfOk, sym, subst, arith}
+use Rattle.std.proofs.Common.{[], ◌∷◌, subst}
 use Rattle.std.proofs.lemmas.Result.{IfOk-weaker}
-use Rattle.fj_theory.specs.Exponents.{origin}
-use Rattle.fj_theory.specs.Polynomial.{Polynomial, term}
+use Rattle.fj_theory.specs.Polynomial.{Polynomial}
 use Rattle.fj_theory.proofs.IdealBridge.{ArePolynomials-single, IsPolynomial-one}
-use Rattle.fj_testideal.specs.Chain.{IsNumberOfFallingPeriods}
 use Rattle.fj_chain.specs.Lists.{ChainEndsWith}
 use Rattle.fj_chain.proofs.Chains.{chain_limit, falling_told, falling_told_few}
 use Rattle.fj_chain.proofs.chain.falling.Goals as goal

@@ -1,4 +1,4 @@
-use Rattle.std.proofs.Common.{sym, subst, ap, ◌∙◌, ◌+◌, ◌≤◌, arith}
+use Rattle.std.proofs.Common.{sym, subst, arith}
 use Rattle.std.proofs.lemmas.Result.{IfOk-weaker}
 use Rattle.fj_theory.proofs.IdealBridge.{ArePolynomials-single}
 use Rattle.fj_testideal.specs.Chain.{IsNumberOfRisingPeriods}

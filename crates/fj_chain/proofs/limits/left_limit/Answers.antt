@@ -1,6 +1,5 @@
-use Rattle.std.proofs.Common.{◌≡◌, List, subst}
+use Rattle.std.proofs.Common.{subst}
 use Rattle.std.proofs.lemmas.Result.{IfOk-weaker}
-use Rattle.fj_theory.specs.Polynomial.{Polynomial}
 use Rattle.fj_plain.specs.declared.order_name.OrderName.TheVariants.{Grevlex}
 use Rattle.fj_ideal.specs.Lists.{RunFor}
 use Rattle.fj_ideal.specs.Stop.{StopsOnlyWith}

@@ -1,11 +1,10 @@
-use Rattle.std.proofs.Common.{◌≡◌, ℕ, zero, suc, ◌<◌, ◌∙◌, ◌∷◌, [], List, sym, subst, refl, arith}
+use Rattle.std.proofs.Common.{◌≡◌, ℕ, ◌<◌, ◌∙◌, ◌∷◌, [], List, subst, refl, arith}
 use Rattle.std.proofs.lemmas.Result.{IfOk-weaker}
 use Rattle.fj_theory.specs.Digits.{IsExpansion}
-use Rattle.fj_theory.specs.Polynomial.{Polynomial}
 use Rattle.fj_plain.specs.declared.order_name.OrderName.TheVariants.{Grevlex}
 use Rattle.fj_ideal.specs.Lists.{RunFor}
 use Rattle.fj_ideal.specs.Stop.{IsCauseOf, IsWritten}
-use Rattle.fj_chain.specs.Lists.{IsHighInStep, IsLastLimitList, IsListOfStep, IsStepFor, IsWholeAndDigits, LeadTo, LimitLeadsTo}
+use Rattle.fj_chain.specs.Lists.{IsHighInStep, IsListOfStep, IsStepFor, IsWholeAndDigits, LeadTo, LimitLeadsTo}
 use Rattle.fj_chain.proofs.LimitStops.{last_whole, limit_chain_stop, limit_pre_stop, limit_whole_stop}
 use Rattle.fj_chain.proofs.limits.limit_from.Goals as goal
 

@@ -1,7 +1,7 @@
-use Rattle.std.proofs.Common.{◌≡◌, ◌<◌, ◌∷◌, [], ◌∙◌, List, sym, ap, subst, arith}
+use Rattle.std.proofs.Common.{◌≡◌, ◌<◌, ◌∷◌, [], ◌∙◌, sym, ap, subst, arith}
 use Rattle.std.proofs.lemmas.Result.{IfOk-weaker}
 use Rattle.fj_theory.specs.Exponents.{origin}
-use Rattle.fj_theory.specs.Polynomial.{Polynomial, term}
+use Rattle.fj_theory.specs.Polynomial.{term}
 use Rattle.fj_plain.specs.declared.order_name.OrderName.TheVariants.{Grevlex}
 use Rattle.fj_ideal.specs.Lists.{NoProduct, RunFor}
 use Rattle.fj_ideal.proofs.Stops.{only_from_exactly, only_of_more}

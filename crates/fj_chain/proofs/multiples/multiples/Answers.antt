@@ -1,10 +1,8 @@
-use Rattle.std.proofs.Common.{◌≡◌, ℕ, ◌+◌, ◌*◌, ◌<◌, ◌≤◌, ◌^◌, ◌++◌, ◌∷◌, [], List, Err, take, sym, ap, ap₂, ◌∙◌, subst, refl, arith}
+use Rattle.std.proofs.Common.{◌≡◌, ℕ, ◌*◌, ◌<◌, ◌++◌, ◌∷◌, [], Err, sym, ap, ap₂, ◌∙◌, subst, refl, arith}
 use Rattle.std.specs.Option.{IsSomeAnd}
 use Rattle.std.proofs.Math.Nat.{mul-le-mul_right}
-use Rattle.std.proofs.lemmas.List.{take_all}
 use Rattle.std.proofs.lemmas.List.Elements.{All-push}
-use Rattle.fj_theory.specs.Ideal.{multiples}
-use Rattle.fj_theory.specs.Polynomial.{Polynomial, power, product}
+use Rattle.fj_theory.specs.Polynomial.{power, product}
 use Rattle.fj_theory.proofs.Degree.{degree-power}
 use Rattle.fj_poly.specs.Limit.{IsHigh, IsHighWhere}
 use Rattle.fj_ideal.specs.Lists.{AreLow}

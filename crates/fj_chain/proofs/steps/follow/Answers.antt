@@ -1,7 +1,6 @@
 use Rattle.std.proofs.Common.{◌∷◌, sym}
 use Rattle.fj_chain.specs.Lists.{IsStepFor}
 use Rattle.fj_chain.proofs.StepLists.{next_list, step_handed_on, this_step, used_more}
-use Rattle.fj_chain.proofs.Chains.{chain_limit}
 use Rattle.fj_chain.proofs.steps.follow.Goals as goal
 
 pub returns-in_err-reached-2-clause-stop : goal.returns-in_err-reached-2-clause-stop
