@@ -4,3 +4,4 @@ pub mod SplitPower
 pub mod Expanded
 pub mod Rows
 pub mod Written
+pub mod WholePart

@@ -1,6 +1,6 @@
 ghost use Rattle.std.specs.Prelude.{◌≡◌, ◌+◌, ◌*◌, ◌<◌, ◌≤◌, ◌^◌, ◌↔◌, ℕ, IfOk, IsErrOf};
 ghost use Rattle.std.specs.Int.{IsGcd};
-ghost use Rattle.fj_theory.specs.Fraction.{IsLowest, ceil_times, compare};
+ghost use Rattle.fj_theory.specs.Fraction.{IsInUnitInterval, IsLowest, ceil_times, compare, plus_whole};
 ghost use Rattle.fj_ratio.specs.Lowest.{IsLowestForm, IsTooWide};
 
 use std::cmp::Ordering;
@@ -88,6 +88,21 @@ impl Ratio {
         ensures lowest { IsLowest self.now }
     {
         u64::from(self.den)
+    }
+
+    /// For a fraction t above 0, the whole number k and the fraction t' of (0, 1] with t = k + t'.
+    pub fn split_whole(&self) -> (u64, Ratio)
+        requires { 0 < self.now.numerator }
+        ensures sum { self.now ≡ plus_whole result.1 result.0 }
+        ensures unit { IsInUnitInterval result.1 }
+    {
+        let den = u32::from(self.den);
+        let whole = (self.num - 1) / den;
+        let rest = Ratio {
+            num: self.num - whole * den,
+            den: self.den,
+        };
+        (u64::from(whole), rest)
     }
 
     /// The least whole number that isn't below q times the fraction.

@@ -1,0 +1,6 @@
+pub mod Chains
+pub mod ChainLists
+pub mod LimitStops
+pub mod PeriodBound
+pub mod StepLists
+pub mod TestIdeals

@@ -1,0 +1,2 @@
+pub mod Admissible
+pub mod Lists

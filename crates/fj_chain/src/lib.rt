@@ -1,0 +1,12 @@
+//! Test ideals of a polynomial at fractions, their limits from the left, and F-jumping numbers, by chains of Frobenius roots:
+//! one step for each digit of the exponent (Blickle, Mustață and Smith 2008).
+#![tactic(auto)]
+
+mod chain;
+mod limits;
+mod multiples;
+mod steps;
+
+pub use chain::{falling, rising};
+pub use limits::{is_jump, left_limit, test_ideal};
+pub use steps::step;
