@@ -79,32 +79,33 @@ fn lack_eighth<K: Coeff>(list: &[GPoly<K>]) -> bool
     list.iter().all(|g| lacks_eighth(g))
 }
 
-// Two ideals, their meet and the quotient of the first by the second.
+// Two ideals have this meet, and the first has this quotient by the second.
 fn are_met<K: Coeff>(
     rt: &impl Abort,
     alloc: Global,
     first: &[Terms],
     second: &[Terms],
-    wanted: (&[Terms], &[Terms]),
+    met: &[Terms],
+    quotient: &[Terms],
 ) -> Result<(), Fail> {
     let j = ideal::<K>(rt, alloc, first)?;
     let k = ideal::<K>(rt, alloc, second)?;
     assert!(rt; lack_eighth(j.members()));
     assert!(rt; lack_eighth(k.members()));
-    are(rt, alloc, meet(alloc, &j, &k, 100)?.members(), wanted.0)?;
-    are(rt, alloc, colon(alloc, &j, &k, 100)?.members(), wanted.1)
+    are(rt, alloc, meet(alloc, &j, &k, 100)?.members(), met)?;
+    are(rt, alloc, colon(alloc, &j, &k, 100)?.members(), quotient)
 }
 
 // (x^2, x*y) and (x) have the meet (x*y, x^2), and the quotient (y, x). The quotient by zero is (1), that of zero is (0).
 #[test]
 fn meets_and_quotients(rt: HostRuntime) -> Result<(), Fail> {
     let alloc = rt.alloc();
-    are_met::<Fp<5>>(&rt, alloc, &[SQUARE, XY], &[X], (&[XY, SQUARE], &[Y, X]))?;
-    are_met::<Fp<5>>(&rt, alloc, &[SQUARE, XY], &[], (&[], &[ONE]))?;
-    are_met::<Fp<5>>(&rt, alloc, &[], &[X], (&[], &[]))?;
-    are_met::<Fp<3>>(&rt, alloc, &[X], &[Y], (&[XY], &[X]))?;
+    are_met::<Fp<5>>(&rt, alloc, &[SQUARE, XY], &[X], &[XY, SQUARE], &[Y, X])?;
+    are_met::<Fp<5>>(&rt, alloc, &[SQUARE, XY], &[], &[], &[ONE])?;
+    are_met::<Fp<5>>(&rt, alloc, &[], &[X], &[], &[])?;
+    are_met::<Fp<3>>(&rt, alloc, &[X], &[Y], &[XY], &[X])?;
     // By two members: (x^2, x*y) : (x, y) is the meet of (x, y) and (x).
-    are_met::<Fp<5>>(&rt, alloc, &[SQUARE, XY], &[X, Y], (&[XY, SQUARE], &[X]))
+    are_met::<Fp<5>>(&rt, alloc, &[SQUARE, XY], &[X, Y], &[XY, SQUARE], &[X])
 }
 
 // (x*y) : x is (y), and by zero it is (1).
