@@ -296,7 +296,7 @@ static OUTSIDES: [Outside; 9] = [
 static LENGTHS: [(usize, usize, u64, u8, &[u8]); 4] = [
     (1_048_576, 65_536, 0, 2, b"fault NoRing at 1:1\n"),
     (1_048_577, 65_536, 0, 2, b"fault Long at 1:1\n"),
-    // The read behind the last byte of the limit finds the end, and behind one byte more there is none.
+    // The read after the last byte of the limit finds the end, and after one byte more there is none.
     (1_048_576, 1, 1_048_577, 4, b""),
     (1_048_577, 1, 1_048_578, 2, b"fault Long at 1:1\n"),
 ];
@@ -310,6 +310,7 @@ fn ends(
 ) -> Result<(), Fail> {
     let (words, session, status, output) = row;
     let (step, read, room, write) = outside;
+    assert!(rt; step >= 1);
     let mut source = MemorySource::new(alloc, session, step, &[read])?;
     let mut sink = MemorySink::new(alloc, room, &[write])?;
     assert_eq!(rt; run(alloc, words, &mut source, &mut sink), status);
