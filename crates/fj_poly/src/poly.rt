@@ -1,3 +1,4 @@
+//! Polynomials as lists of terms that fall in an order.
 ghost use Rattle.std.specs.Prelude.{◌≡◌, ◌≢◌, ◌<◌, ◌↔◌, ◌++◌, ◌∷◌, [], All, IfOk, IfErr, IsTrue, length, slice_get};
 ghost use Rattle.std.specs.Option.{option_map};
 ghost use Rattle.std.specs.declared.cmp.Ordering.TheVariants.{Greater};
@@ -6,10 +7,11 @@ ghost use Rattle.fj_theory.specs.MonomialOrder.{compare_by};
 ghost use Rattle.fj_theory.specs.Polynomial.{IsPolynomial, coefficient, degree, lead, sum, term, terms_falling};
 ghost use Rattle.fj_poly.specs.Limit.{IsHigh};
 
-mod order;
+mod difference;
 mod plain;
 pub(crate) mod point;
 mod product;
+mod reordering;
 
 use fj_coeff::Coeff;
 use fj_mono::{Grevlex, Mono, Order};
