@@ -11,6 +11,7 @@ mod finishing;
 mod handed;
 mod members;
 mod pairs;
+mod pending;
 mod run;
 mod stop;
 pub mod types;
