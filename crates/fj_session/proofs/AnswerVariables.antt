@@ -30,8 +30,8 @@ use Rattle.fj_session.specs.declared.types.Answer.{Answer}
 use Rattle.fj_session.specs.declared.types.Answer.TheVariants.{Parts, Ideal, Yes, No, StoppedPairs, StoppedHigh, Later}
 use Rattle.fj_session.specs.Answer.{AnswerUsesFirst, IsAnswer, RowUsesFirst}
 use Rattle.fj_session.specs.Meaning.{IsIdealAnswer}
-use Rattle.fj_shell.specs.Asked.{AreOfOneSession, IsIdealAt, IsNonconstantAt, IsPolyAt}
-use Rattle.fj_shell.specs.Named.{ideal_at, polynomial_at, polynomials}
+use Rattle.fj_shell.specs.Asked.{AreOfOneSession, IsIdealAt, IsNonconstantAt}
+use Rattle.fj_shell.specs.Named.{ideal_at, polynomial_at}
 use Rattle.fj_session.specs.Statement.{meaning_of}
 use Rattle.fj_session.specs.declared.types.PartRow.{PartRow}
 use Rattle.fj_shell.proofs.Known.{basis_question, colon_question, left_question, meet_question, parts_question, power_question, prime_known, product_question, root_question, sum_question, test_question}

@@ -19,7 +19,8 @@ const OUTPUT_A: &[u8] =
     b"1: part (0,0) = y\n1: part (1,1) = 2*x+1\n2: part (0,0) = 2*x^4*y+y^3+x*y\n";
 
 /// A cusp over GF(5).
-const CUSP: &[u8] = b"ring 5 x, y\npoly f = x^2+y^3\nask test f 4/5\nask left f 4/5\nask isjump f 4/5\nask isjump f 3/4\nask regular f 3/4\nask regular f 4/5\n";
+const CUSP: &[u8] =
+    b"ring 5 x, y\npoly f = x^2+y^3\nask test f 4/5\nask left f 4/5\nask isjump f 4/5\nask isjump f 3/4\nask regular f 3/4\nask regular f 4/5\n";
 
 const CUSP_ANSWERS: &[u8] = b"1: (y, x)\n2: (1)\n3: yes\n4: no\n5: yes\n6: no\n";
 
@@ -428,12 +429,7 @@ fn fails_as_the_outside_does(rt: HostRuntime) -> Result<(), Fail> {
 fn limits_fail_as_the_outside_does(rt: HostRuntime) -> Result<(), Fail> {
     let alloc = rt.alloc();
     ends(&rt, alloc, (GO, CUSP, 4, b""), (10, 2, 1000, 0))?;
-    ends(
-        &rt,
-        alloc,
-        (GO, CUSP, 5, b"1: (y, x)\n"),
-        (10, 0, 1000, 2),
-    )
+    ends(&rt, alloc, (GO, CUSP, 5, b"1: (y, x)\n"), (10, 0, 1000, 2))
 }
 
 #[test]

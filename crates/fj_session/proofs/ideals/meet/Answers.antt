@@ -1,5 +1,4 @@
-use Rattle.std.proofs.Common.{◌≡◌, inl, inr, sym, subst, refl}
-use Rattle.std.specs.Prelude.{MatchOption}
+use Rattle.std.proofs.Common.{inl, inr, refl}
 use Rattle.fj_theory.specs.Colon.{IsMeet}
 use Rattle.fj_plain.specs.declared.order_name.OrderName.TheVariants.{Elim}
 use Rattle.fj_ideal.specs.Ideal.{IsIdealOf}
