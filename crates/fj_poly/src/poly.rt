@@ -5,13 +5,14 @@ ghost use Rattle.std.specs.FinMap.{empty, from_entries, len};
 ghost use Rattle.fj_theory.specs.MonomialOrder.{compare_by};
 ghost use Rattle.fj_theory.specs.Polynomial.{IsFalling, IsPolynomial, coefficient, degree, lead, sum, term, terms_falling};
 ghost use Rattle.fj_poly.specs.Limit.{IsHigh};
+ghost use Rattle.fj_poly.specs.Slots.{without_lead};
 ghost use Rattle.fj_poly.specs.Terms.{AreTerms, entries};
 
 pub(crate) mod merge;
 mod order;
 mod plain;
 pub(crate) mod point;
-mod product;
+pub(crate) mod product;
 
 use self::merge::merge_terms;
 use fj_coeff::Coeff;
@@ -123,6 +124,16 @@ impl<K: Coeff, O: Order> Poly<K, O> {
         ensures terms { AreTerms K.field (entries K.rank result.now) }
     {
         self.terms.as_slice()
+    }
+
+    // The terms after the first, falling.
+    pub(crate) fn later_terms(&self) -> &[Term<K>]
+        requires { self.now ≢ empty }
+        ensures value { from_entries (entries K.rank result.now) ≡ without_lead K.field O.key self.now }
+        ensures falls { IsFalling O.key (entries K.rank result.now) }
+        ensures terms { AreTerms K.field (entries K.rank result.now) }
+    {
+        &self.terms[1..]
     }
 
     /// The lead: the coefficient and the monomial of the greatest term in O. `None` exactly for zero.

@@ -28,9 +28,10 @@ pub(crate) fn merge_terms<K: Coeff, O: Order>(
     let mut left = one;
     let mut right = other;
     terms.clear();
-    'merge: while let (Some((first, others)), Some((second, more))) =
-        (left.split_first(), right.split_first())
-    {
+    'merge: while let (Some((first, others)), Some((second, more))) = (
+        left.split_first(),
+        right.split_first(),
+    ) {
         match O::cmp(&first.monomial, &second.monomial) {
             Ordering::Greater => {
                 terms.push(*first)?;
