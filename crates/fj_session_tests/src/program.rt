@@ -159,7 +159,7 @@ static IDEALS: [Row<'static>; 9] = [
     ),
     (
         GO,
-        b"ring 2 x, y\nideal J = (x^2+y, x*y+1)\nbudget 1\nask basis J\nbudget 3\nask basis J\norder lex\nbudget 100\nask basis J\n",
+        b"ring 2 x, y\nideal J = (x^2+y, x*y+1)\nbudget 1\nask basis J\nbudget 2\nask basis J\norder lex\nbudget 100\nask basis J\n",
         3,
         b"1: stopped pairs\n2: (y^2+x, x*y+1, x^2+y)\n3: (y^3+1, x+y^2)\n",
     ),
