@@ -4,7 +4,7 @@ ghost use Rattle.std.specs.Prelude.{IsTrue};
 ghost use Rattle.fj_chain.specs.Admissible.{IsAdmissible};
 
 use fj_chain::{falling, is_jump, left_limit, rising, step, test_ideal};
-use fj_coeff::{Coeff, Fp};
+use fj_coeff::{Coeff, Fp, is_prime};
 use fj_elim::lacks_eighth;
 use fj_ideal::Ideal;
 use fj_mono::Mono;
@@ -115,6 +115,7 @@ fn chains_of_a_period(rt: HostRuntime) -> Result<(), Fail> {
     let f: GPoly<Fp<2>> = poly(&rt, alloc, FIFTH)?;
     let third = Ratio::new(1, 3).expect(&rt, "a fraction");
     assert!(rt; is_admissible(&f));
+    assert!(rt; is_prime(2));
     assert!(rt; 0 < third.num());
     assert!(rt; third.num() <= third.den());
     let digits = Digits::of(alloc, 2, &third)?;
