@@ -1,20 +1,18 @@
 -- The quotient I^[p] : I of an ideal and its root, by the members of the ideals.
-use Rattle.std.proofs.Common.{◌≢◌, ◌↔◌, ℕ, ◌^◌, List, [], ◌∷◌, All, Any, Result, Ok, Err, IfOk, get_or, refl, sym, subst}
+use Rattle.std.proofs.Common.{ℕ, ◌^◌, List, [], ◌∷◌, All, Result, Ok, Err, IfOk, get_or, refl, sym, subst}
 use Rattle.std.proofs.lemmas.List.Elements.{All-map, Contains-get_or}
 use Rattle.fj_algebra.proofs.Lists.{All-map_back}
 use Rattle.fj_coeff.specs.Field.{Field, IsField}
 use Rattle.fj_theory.specs.Colon.{IsColon}
-use Rattle.fj_theory.specs.Evaluation.{IsPoint, value}
 use Rattle.fj_theory.specs.FrobeniusPower.{frobenius_power}
 use Rattle.fj_theory.specs.Ideal.{SameIdeal}
 use Rattle.fj_theory.specs.PointIdeal.{UsesFirst}
 use Rattle.fj_theory.specs.Polynomial.{Polynomial, power}
 use Rattle.fj_theory.specs.Root.{IsRoot}
-use Rattle.fj_theory.specs.Splitting.{IsFPureAt}
 use Rattle.fj_theory.proofs.Colon.{IsColon-SameIdeal}
-use Rattle.fj_theory.proofs.Fedder.{IsFPureAt-exactly}
 use Rattle.fj_theory.proofs.FrobeniusPower.{ArePolynomials-frobenius_power}
 use Rattle.fj_theory.proofs.Ideal.{SameIdeal-refl, SameIdeal-sym}
+use Rattle.fj_theory.proofs.Root.{IsRoot-SameIdeal}
 use Rattle.fj_theory.proofs.UsesFirst.{UsesFirst-all_parts, UsesFirst-frobenius_power}
 use Rattle.fj_poly.specs.Limit.{IsHigh}
 use Rattle.fj_ideal.specs.Ideal.{IsIdeal, IsIdealOf, WithBasis}
@@ -22,7 +20,6 @@ use Rattle.fj_ideal.specs.Lists.{AreLow}
 use Rattle.fj_ideal.proofs.Lists.{basis_of_list}
 use Rattle.fj_ideal.proofs.ReducedBasis.{ArePolynomials-members, SameIdeal-members}
 use Rattle.fj_frobenius.specs.Lists.{IsHighMember, IsRootList}
-use Rattle.fj_frobenius.proofs.Operations.{root_of_members}
 use Rattle.fj_elim.specs.Lists.{IsColonBasis}
 use Rattle.fj_elim.proofs.Quotients.{basis_of_colon, members-lack}
 use Rattle.fj_fedder.specs.Fedder.{IsFedderColon}
@@ -58,20 +55,21 @@ module _ {F : Field} (L : IsField F) where
         reduced = basis_of_list B;
       }
 
-    -- Fedder's criterion at a point, by a root of the members of the quotient.
-    pub criterion_at : {C : WithBasis} → IsIdeal F C → IsFedderColon F I.given C.given → {M : List Polynomial} → IsRoot F (F.characteristic ^ 1) C.members M → {point : List ℕ} → IsPoint F point
-        → IsFPureAt F I.given point ↔ Any (λ r. value F r point ≢ 0) M
-    criterion_at Q c root at = IsFPureAt-exactly L A.polynomials c (root_of_members L 1 Q root) at
-
     -- Its quotient by I is that of I^[p].
     module _ {P C : WithBasis} (B : IsIdeal F P) (Q : IsIdeal F C) (c : IsColon F P.given I.given C.given) where
-      pub colon_of_power : SameIdeal F (frobenius_power F (F.characteristic ^ 1) I.given) P.given → IsFedderColon F I.given C.given
-      colon_of_power same =
-          IsColon-SameIdeal L B.polynomials (ArePolynomials-frobenius_power L A.polynomials (F.characteristic ^ 1)) A.polynomials A.polynomials Q.polynomials Q.polynomials
-          (SameIdeal-sym same) (SameIdeal-refl L A.polynomials) (SameIdeal-refl L Q.polynomials) c
-
       pub basis_of_power_colon : IsColonBasis F P.members I.members C.members
       basis_of_power_colon =
           basis_of_colon L B (ArePolynomials-members L A) Q
           (IsColon-SameIdeal L B.polynomials B.polynomials A.polynomials (ArePolynomials-members L A) Q.polynomials Q.polynomials
           (SameIdeal-refl L B.polynomials) (SameIdeal-members L A) (SameIdeal-refl L Q.polynomials) c)
+
+      pub colon_of_power : SameIdeal F (frobenius_power F (F.characteristic ^ 1) I.given) P.given → IsFedderColon F I.given C.members
+      colon_of_power same = record {
+        colon = IsColon-SameIdeal L B.polynomials (ArePolynomials-frobenius_power L A.polynomials (F.characteristic ^ 1)) A.polynomials A.polynomials Q.polynomials (ArePolynomials-members L Q)
+            (SameIdeal-sym same) (SameIdeal-refl L A.polynomials) (SameIdeal-members L Q) c;
+        reduced = basis_of_power_colon.reduced;
+      }
+
+  -- The root of an ideal is that of its members.
+  pub root_to_members : (e : ℕ) {J : WithBasis} → IsIdeal F J → {M : List Polynomial} → IsRoot F (F.characteristic ^ e) J.given M → IsRoot F (F.characteristic ^ e) J.members M
+  root_to_members e I root = IsRoot-SameIdeal L I.polynomials (ArePolynomials-members L I) (SameIdeal-members L I) root

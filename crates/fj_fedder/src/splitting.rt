@@ -20,7 +20,7 @@ pub(crate) fn fedder_colon<K: Coeff>(
     pairs: u64,
 ) -> Result<Ideal<K>, Stop>
     requires variables { All (UsesFirst 7) i.now.members }
-    ensures colon { IfOk result (λ C. IsFedderColon K.field i.now.given C.given) }
+    ensures colon { IfOk result (λ C. IsFedderColon K.field i.now.given C.members) }
     ensures ideal { IfOk result (IsIdeal K.field) }
     ensures basis { IfOk result (λ C. IsFedderColonBasis K.field i.now.members C.members) }
     ensures variables { IfOk result (λ C. All (UsesFirst 7) C.members) }
@@ -33,8 +33,8 @@ pub(crate) fn fedder_colon<K: Coeff>(
 }
 
 /// The Frobenius root at 1 of the quotient I^[p] : I, p the characteristic, of an ideal I in the first seven variables, with
-/// at most `pairs` turns in each run. Its members are the values at 1 of the p^-1-linear maps that keep I (Fedder 1983,
-/// section 1). It is made of the parts at 1 of the members of the quotient, in order.
+/// at most `pairs` turns in each run. By Fedder's criterion it decides whether the polynomials modulo I are
+/// F-pure (Fedder 1983, section 1). It is made of the parts at 1 of the members of the quotient, in order.
 ///
 /// The lists are the p-th powers of the members of I, those of `colon` for the ideal of these powers and I, and the parts.
 /// `Pairs` only where that many turns were made on one of the lists and pairs are pending, `High` only where a sugar above

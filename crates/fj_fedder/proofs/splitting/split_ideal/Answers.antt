@@ -6,7 +6,7 @@ use Rattle.fj_ideal.proofs.Stops.{only_handed_on, only_of_more}
 use Rattle.fj_frobenius.specs.Lists.{IsRootList}
 use Rattle.fj_elim.proofs.Quotients.{members-lack}
 use Rattle.fj_fedder.specs.Lists.{IsHighInSplit, IsListForColon, IsSplitList}
-use Rattle.fj_fedder.proofs.Splits.{IfOk-both, parts-lack}
+use Rattle.fj_fedder.proofs.Splits.{IfOk-both, parts-lack, root_to_members}
 use Rattle.fj_fedder.proofs.splitting.split_ideal.Goals as goal
 
 pub returns-in_err-colon-clause-stop : goal.returns-in_err-colon-clause-stop
@@ -18,7 +18,9 @@ returns-in_err-colon-clause-stop g c =
 
 pub returns-clause-split : goal.returns-clause-split
 returns-clause-split g c =
-    IfOk-weaker c.frobenius_root.result _ _ (λ J root. record { colon = c.in_ok-colon.colon.given; is_colon = c.in_ok-colon.ensures.colon; root = root }) c.frobenius_root.ensures.root
+    IfOk-weaker c.frobenius_root.result _ _
+    (λ J root. record { colon = c.in_ok-colon.colon.members; is_colon = c.in_ok-colon.ensures.colon; root = root_to_members g.met.K.Coeff.lawful 1 c.in_ok-colon.ensures.ideal root })
+    c.frobenius_root.ensures.root
 
 pub returns-clause-given : goal.returns-clause-given
 returns-clause-given g c =
