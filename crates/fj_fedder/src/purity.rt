@@ -29,7 +29,7 @@ pub enum PureAt {
 ///
 /// By Fedder's criterion it is so exactly where `split_ideal` of I is the whole ring. It stops as `split_ideal` does.
 pub fn is_pure<K: Coeff>(alloc: Global, i: &Ideal<K>, pairs: u64) -> Result<bool, Stop>
-    requires variables { All (UsesFirst 7) i.now.members }
+    requires { All (UsesFirst 7) i.now.members }
     ensures value { IfOk result (λ b. IsTrue b ↔ IsFPure K.field i.now.given) }
     ensures stop { StopsOnlyWith K.field (IsSplitList K.field i.now.members) (IsHighInSplit K.field i.now.members) pairs result }
 {
@@ -51,7 +51,7 @@ pub fn is_pure_at<K: Coeff>(
     at: &Point<K>,
     pairs: u64,
 ) -> Result<PureAt, Stop>
-    requires variables { All (UsesFirst 7) i.now.members }
+    requires { All (UsesFirst 7) i.now.members }
     ensures value { IfOk result (IsVerdictAt K.field i.now.given at.now) }
     ensures stop { StopsOnlyWith K.field (IsListForColon K.field i.now.members) (IsHighInSplit K.field i.now.members) pairs result }
 {

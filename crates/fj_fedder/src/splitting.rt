@@ -19,7 +19,7 @@ pub(crate) fn fedder_colon<K: Coeff>(
     i: &Ideal<K>,
     pairs: u64,
 ) -> Result<Ideal<K>, Stop>
-    requires variables { All (UsesFirst 7) i.now.members }
+    requires { All (UsesFirst 7) i.now.members }
     ensures colon { IfOk result (λ C. IsFedderColon K.field i.now.given C.members) }
     ensures ideal { IfOk result (IsIdeal K.field) }
     ensures basis { IfOk result (λ C. IsFedderColonBasis K.field i.now.members C.members) }
@@ -41,7 +41,7 @@ pub(crate) fn fedder_colon<K: Coeff>(
 /// 2^40 arises in the run on one. Both keep this list. `Product` only where such a p-th power, or a product for the quotient,
 /// has a term of total degree above 2^40, and it keeps the member, or the one factor that isn't t or 1 - t.
 pub fn split_ideal<K: Coeff>(alloc: Global, i: &Ideal<K>, pairs: u64) -> Result<Ideal<K>, Stop>
-    requires variables { All (UsesFirst 7) i.now.members }
+    requires { All (UsesFirst 7) i.now.members }
     ensures split { IfOk result (λ J. IsSplitIdeal K.field i.now.given J.given) }
     ensures ideal { IfOk result (IsIdeal K.field) }
     ensures given { IfOk result (λ J. IsSplitGiven K.field i.now.members J.given) }

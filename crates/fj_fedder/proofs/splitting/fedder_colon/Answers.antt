@@ -11,7 +11,7 @@ use Rattle.fj_fedder.proofs.Splits.{IfOk-both, basis_of_power_colon, colon_of_po
 use Rattle.fj_fedder.proofs.splitting.fedder_colon.Goals as goal
 
 pub colon-requires-clause-first : goal.colon-requires-clause-first
-colon-requires-clause-first g c = power-lacks g.met.K.Coeff.lawful c.given.ensures.ideal c.in_ok-power.ensures.value c.requires.variables
+colon-requires-clause-first g c = power-lacks g.met.K.Coeff.lawful c.given.ensures.ideal c.in_ok-power.ensures.value c.requires
 
 pub returns-in_err-power-clause-stop : goal.returns-in_err-power-clause-stop
 returns-in_err-power-clause-stop g c =
