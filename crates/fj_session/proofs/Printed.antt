@@ -28,7 +28,7 @@ use Rattle.fj_session.specs.declared.types.Answer.{Answer}
 use Rattle.fj_session.specs.Answer.{IsAnswerTo}
 use Rattle.fj_session.specs.Meaning.{meaning_of_ideal, meaning_of_verdict}
 use Rattle.fj_session.specs.declared.types.Answer.TheVariants.{Yes, No, Off, StoppedPairs, StoppedHigh}
-use Rattle.fj_session.specs.Outcome.{IsFound, IsIdealFor, IsJudged, IsPrinted, IsShown, OwnStops, PrintStops, StopsFor}
+use Rattle.fj_session.specs.Outcome.{IsFound, IsIdealFor, IsJudged, IsPrinted, IsShown, PrintStops, StopsFor}
 use Rattle.fj_session.specs.Splittings.{IsPurityAt, meaning_of_pure_at}
 use Rattle.fj_session.specs.Statement.{meaning_of}
 

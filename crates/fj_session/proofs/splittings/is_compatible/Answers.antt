@@ -7,7 +7,7 @@ use Rattle.fj_plain.specs.declared.order_name.OrderName.{OrderName}
 use Rattle.fj_plain.specs.declared.order_name.OrderName.TheVariants.{Grevlex}
 use Rattle.fj_basis.specs.declared.stop.Stop.{Stop}
 use Rattle.fj_ideal.specs.Lists.{IsHighPair, NoList, RunFor}
-use Rattle.fj_ideal.specs.Stop.{StopsExactlyWith, StopsOnlyWith}
+use Rattle.fj_ideal.specs.Stop.{StopsOnlyWith}
 use Rattle.fj_ideal.proofs.Lists.{of_members}
 use Rattle.fj_ideal.proofs.Stops.{only_from_exactly, refused_only}
 use Rattle.fj_shell.specs.Named.{ideal_at, polynomial_at}
