@@ -12,6 +12,7 @@ use Rattle.fj_theory.specs.Polynomial.{Polynomial, IsPolynomial, power}
 use Rattle.fj_theory.specs.Root.{IsRoot}
 use Rattle.fj_theory.proofs.FrobeniusPower.{ArePolynomials-frobenius_power}
 use Rattle.fj_theory.proofs.Ideal.{ArePolynomials-append, ArePolynomials-products, SameIdeal-refl}
+use Rattle.fj_theory.proofs.Keys.{grevlex_key-IsMonomialOrder}
 use Rattle.fj_theory.proofs.IdealBridge.{ArePolynomials-head, ArePolynomials-single, ArePolynomials-tail}
 use Rattle.fj_groebner.proofs.Lacking.{IsColon-UsesFirst, IsMeet-UsesFirst, IsReducedBasis-UsesFirst}
 use Rattle.fj_theory.proofs.PartsExistence.{parts_of, IsParts-parts_of}
@@ -22,19 +23,20 @@ use Rattle.fj_theory.proofs.Root.{IsRoot-append, IsRoot-nil, IsRoot-unique}
 use Rattle.fj_theory.proofs.RootParts.{IsRoot-parts}
 use Rattle.fj_theory.proofs.UsesFirst.{UsesFirst-append, UsesFirst-frobenius_power, UsesFirst-parts, UsesFirst-power, UsesFirst-products}
 use Rattle.fj_testideal.specs.TestIdeal.{IsLeftLimit, IsTestIdeal}
+use Rattle.fj_fedder.specs.Fedder.{IsFedderColon, IsSplitIdeal}
 use Rattle.fj_script.specs.declared.question.Asked.{Asked}
 use Rattle.fj_script.specs.declared.question.Question.{Question}
 use Rattle.fj_script.specs.declared.question.Question.TheVariants as questions
 use Rattle.fj_script.specs.declared.script.Env.{Env}
 use Rattle.fj_session.specs.declared.types.Answer.{Answer}
-use Rattle.fj_session.specs.declared.types.Answer.TheVariants.{Parts, Ideal, Yes, No, StoppedPairs, StoppedHigh, Later}
+use Rattle.fj_session.specs.declared.types.Answer.TheVariants.{Parts, Ideal, Yes, No, Off, StoppedPairs, StoppedHigh, Later}
 use Rattle.fj_session.specs.Answer.{AnswerUsesFirst, IsAnswer, RowUsesFirst}
 use Rattle.fj_session.specs.Meaning.{IsIdealAnswer}
 use Rattle.fj_shell.specs.Asked.{AreOfOneSession, IsIdealAt, IsNonconstantAt}
 use Rattle.fj_shell.specs.Named.{ideal_at, polynomial_at}
 use Rattle.fj_session.specs.Statement.{meaning_of}
 use Rattle.fj_session.specs.declared.types.PartRow.{PartRow}
-use Rattle.fj_shell.proofs.Known.{basis_question, colon_question, left_question, meet_question, parts_question, power_question, prime_known, product_question, root_question, sum_question, test_question}
+use Rattle.fj_shell.proofs.Known.{basis_question, colon_question, left_question, meet_question, parts_question, power_question, prime_known, product_question, root_question, split_question, sum_question, test_question}
 use Rattle.fj_session.proofs.Declared.{ideal_named, polynomial_named}
 use Rattle.fj_session.proofs.Printed.{key_of-IsMonomialOrder, polynomials_of_equal}
 use Rattle.fj_session.proofs.Variables.{rows_use_first}
@@ -145,11 +147,23 @@ module _ (env : Env) (asked : Asked) (one : AreOfOneSession env asked) where
   list_uses_first (questions.Root e j) is list h =
       let known = root_question env asked e j one is in
       shown_uses_first {IsAsked = IsRoot (prime_field env.p) ((prime_field env.p).characteristic ^ e) (ideal_at env j)} (λ M root. root_generated e (ideal_are j known.1) (ideal_uses j known.1) root) list h
+  list_uses_first (questions.Split j) is list h =
+      let J = split_question env asked j one is in
+      let A = ideal_are j J in
+      let uses = ideal_uses j J in
+      let lawful = IsField-prime_field env.p (prime_known env asked one) in
+      let q = (prime_field env.p).characteristic ^ 1 in
+      let colon_uses : (C : List Polynomial) → IsFedderColon (prime_field env.p) (ideal_at env j) C → All (UsesFirst (length env.vars)) C =
+      λ C c. IsColon-UsesFirst grevlex_key-IsMonomialOrder lawful (ArePolynomials-frobenius_power lawful A q) A (UsesFirst-frobenius_power lawful A uses q) uses c.colon c.reduced in
+      shown_uses_first {IsAsked = IsSplitIdeal (prime_field env.p) (ideal_at env j)} (λ M S. root_generated 1 S.is_colon.colon.polynomials (colon_uses S.colon S.is_colon) S.root) list h
   list_uses_first (questions.Parts e f) is list h = absurd h
   list_uses_first (questions.Member f j) is list h = absurd h
   list_uses_first (questions.Same j k) is list h = absurd h
   list_uses_first (questions.IsJump f t) is list h = absurd h
   list_uses_first (questions.Regular f t) is list h = absurd h
+  list_uses_first (questions.Pure j) is list h = absurd h
+  list_uses_first (questions.PureAt j at) is list h = absurd h
+  list_uses_first (questions.Compatible e u j) is list h = absurd h
   list_uses_first _ is list h = absurd h
 
   rows_of_question : (q : Question) → asked.question ≡ q → (rows : List PartRow) → (meaning_of (prime_field env.p) env asked.order q).answer (Parts rows) → All (RowUsesFirst (length env.vars)) rows
@@ -169,6 +183,10 @@ module _ (env : Env) (asked : Asked) (one : AreOfOneSession env asked) where
   rows_of_question (questions.Left f t) is rows h = absurd h
   rows_of_question (questions.IsJump f t) is rows h = absurd h
   rows_of_question (questions.Regular f t) is rows h = absurd h
+  rows_of_question (questions.Pure j) is rows h = absurd h
+  rows_of_question (questions.PureAt j at) is rows h = absurd h
+  rows_of_question (questions.Split j) is rows h = absurd h
+  rows_of_question (questions.Compatible e u j) is rows h = absurd h
   rows_of_question _ is rows h = absurd h
 
   pub answer_uses_first : (a : Answer) → IsAnswer env asked a → AnswerUsesFirst (length env.vars) a
@@ -176,6 +194,7 @@ module _ (env : Env) (asked : Asked) (one : AreOfOneSession env asked) where
   answer_uses_first (Ideal list) h = list_uses_first asked.question refl list h
   answer_uses_first Yes h = tt
   answer_uses_first No h = tt
+  answer_uses_first Off h = tt
   answer_uses_first (StoppedPairs k) h = tt
   answer_uses_first (StoppedHigh k) h = tt
   answer_uses_first Later h = tt

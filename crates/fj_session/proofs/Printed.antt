@@ -2,6 +2,7 @@
 use Rattle.std.proofs.Common.{◌≡◌, ◌≢◌, ℕ, Bool, true, false, cond, MatchBool, List, Result, Ok, Err, IfOk, inl, inr, sym, subst, refl}
 use Rattle.std.specs.Result.{IsErrAnd}
 use Rattle.std.proofs.lemmas.List.Elements.{All-weaker}
+use Rattle.std.proofs.lemmas.Result.{IfOk-weaker}
 use Rattle.fj_coeff.specs.Field.{Field, IsField}
 use Rattle.fj_theory.specs.Ideal.{ArePolynomials, SameIdeal, Member}
 use Rattle.fj_theory.specs.MonomialOrder.{IsMonomialOrder, grevlex_key}
@@ -26,8 +27,9 @@ use Rattle.fj_script.specs.declared.script.Env.{Env}
 use Rattle.fj_session.specs.declared.types.Answer.{Answer}
 use Rattle.fj_session.specs.Answer.{IsAnswerTo}
 use Rattle.fj_session.specs.Meaning.{meaning_of_ideal, meaning_of_verdict}
-use Rattle.fj_session.specs.declared.types.Answer.TheVariants.{Yes, No}
-use Rattle.fj_session.specs.Outcome.{IsFound, IsIdealFor, IsJudged, IsPrinted, IsShown, OwnStops, PrintStops, StopsFor}
+use Rattle.fj_session.specs.declared.types.Answer.TheVariants.{Yes, No, Off, StoppedPairs, StoppedHigh}
+use Rattle.fj_session.specs.Outcome.{IsFound, IsIdealFor, IsJudged, IsPrinted, IsShown, PrintStops, StopsFor}
+use Rattle.fj_session.specs.Splittings.{IsPurityAt, meaning_of_pure_at}
 use Rattle.fj_session.specs.Statement.{meaning_of}
 
 pub key_of-IsMonomialOrder : (order : OrderName) → IsMonomialOrder (key_of order)
@@ -79,16 +81,29 @@ module _ {F : Field} (L : IsField F) (printing : OrderName) (budget : ℕ) (IsAs
   )
 
 -- A verdict.
-module _ (F : Field) (printing : OrderName) (budget : ℕ) (P : Type 0) (IsList IsProduct : List Polynomial → Type 0) where
+module _ (F : Field) (printing : OrderName) (budget : ℕ) (P : Type 0) (IsList : OrderName → List Polynomial → Type 0) (IsProduct : List Polynomial → Type 0) where
   verdict_for : (b : Bool) → MatchBool b P (P → ⊥) → IsAnswerTo F (meaning_of_verdict P IsList IsProduct) printing budget (cond b Yes No)
   verdict_for true h = h
   verdict_for false h = h
 
-  pub found_verdict : (v : Result Bool Stop) (r : Result Answer Stop) → IsJudged v r → IfOk v (λ b. MatchBool b P (P → ⊥)) → OwnStops F IsList IsProduct budget v → IsFound F (meaning_of_verdict P IsList IsProduct) printing budget r
+  pub found_verdict : (v : Result Bool Stop) (r : Result Answer Stop) → IsJudged v r → IfOk v (λ b. MatchBool b P (P → ⊥)) → StopsOnlyWith F IsList IsProduct budget v → IsFound F (meaning_of_verdict P IsList IsProduct) printing budget r
   found_verdict (Ok b) r is verdict stop =
       subst (IsFound F (meaning_of_verdict P IsList IsProduct) printing budget) (sym is) (verdict_for b verdict, tt)
   found_verdict (Err s) r handed verdict stop =
-      (handed_answer (IsAnswerTo F (meaning_of_verdict P IsList IsProduct) printing budget) s r handed, only_handed_on F budget (RunFor Grevlex IsList) (RunFor Grevlex IsList) IsProduct IsProduct (λ o M e. e) (λ M e. e) s r handed stop)
+      (handed_answer (IsAnswerTo F (meaning_of_verdict P IsList IsProduct) printing budget) s r handed, only_handed_on F budget IsList IsList IsProduct IsProduct (λ o M e. e) (λ M e. e) s r handed stop)
+
+-- The verdict at a point.
+module _ (F : Field) (printing : OrderName) (budget : ℕ) (J : List Polynomial) (point : List ℕ) where
+  purity_for : (a : Answer) → IsPurityAt F J point a → IsAnswerTo F (meaning_of_pure_at F J point) printing budget a
+  purity_for Yes h = h
+  purity_for No h = h
+  purity_for Off h = h
+  purity_for (StoppedPairs k) h = absurd h
+  purity_for (StoppedHigh k) h = absurd h
+  purity_for _ h = h
+
+  pub found_purity : (r : Result Answer Stop) → IfOk r (IsPurityAt F J point) → StopsFor F (meaning_of_pure_at F J point) budget r → IsFound F (meaning_of_pure_at F J point) printing budget r
+  found_purity r h stop = (IfOk-weaker r (IsPurityAt F J point) (IsAnswerTo F (meaning_of_pure_at F J point) printing budget) (λ a p. purity_for a p) h, stop)
 
 -- What a question means is told by its kind.
 pub found_as : (F : Field) (env : Env) (asked : Asked) (question : Question) → asked.question ≡ question → (r : Result Answer Stop) → IsFound F (meaning_of F env asked.order question) asked.order asked.budget r

@@ -23,7 +23,7 @@ meaning_of_basis F printing J = meaning_of_ideal F printing (λ M. M ≡ J) (Run
 
 -- `member F J`
 abbrev pub meaning_of_member : Field → Polynomial → List Polynomial → Meaning
-meaning_of_member F f J = meaning_of_verdict (Member F J f) (λ L. L ≡ J) NoProduct
+meaning_of_member F f J = meaning_of_verdict (Member F J f) (RunFor Grevlex (λ L. L ≡ J)) NoProduct
 
 -- The generators of one of two ideals, as declared.
 abbrev pub IsDeclared : List Polynomial → List Polynomial → List Polynomial → Type 0
@@ -31,7 +31,7 @@ IsDeclared J K L = (L ≡ J) ⊎ (L ≡ K)
 
 -- `same J K`
 abbrev pub meaning_of_same : Field → List Polynomial → List Polynomial → Meaning
-meaning_of_same F J K = meaning_of_verdict (SameIdeal F J K) (IsDeclared J K) NoProduct
+meaning_of_same F J K = meaning_of_verdict (SameIdeal F J K) (RunFor Grevlex (IsDeclared J K)) NoProduct
 
 abbrev pub IsListOfSum : Field → List Polynomial → List Polynomial → List Polynomial → Type 0
 IsListOfSum F J K L = (L ≡ J) ⊎ (L ≡ K) ⊎ OfBases F J K (λ G H. IsSumList G H L)

@@ -23,7 +23,7 @@ meaning_of_left F printing f t = meaning_of_ideal F printing (IsLeftLimit F f t)
 
 -- `isjump F t`
 abbrev pub meaning_of_is_jump : Field → Polynomial → Fraction → Meaning
-meaning_of_is_jump F f t = meaning_of_verdict (IsJump F f t) (IsJumpList F f t) (IsHighInJump F f t)
+meaning_of_is_jump F f t = meaning_of_verdict (IsJump F f t) (RunFor Grevlex (IsJumpList F f t)) (IsHighInJump F f t)
 
 -- 1 is in the test ideal of f at t.
 pub record IsRegularAt (F : Field) (f : Polynomial) (t : Fraction) : Type 0 where
@@ -33,4 +33,4 @@ pub record IsRegularAt (F : Field) (f : Polynomial) (t : Fraction) : Type 0 wher
 
 -- `regular F t`
 abbrev pub meaning_of_regular : Field → Polynomial → Fraction → Meaning
-meaning_of_regular F f t = meaning_of_verdict (IsRegularAt F f t) (IsTestList F f t) (IsHighInTest F f t)
+meaning_of_regular F f t = meaning_of_verdict (IsRegularAt F f t) (RunFor Grevlex (IsTestList F f t)) (IsHighInTest F f t)

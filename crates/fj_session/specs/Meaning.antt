@@ -76,9 +76,9 @@ IsVerdict P Yes = P
 IsVerdict P No = P → ⊥
 IsVerdict P _ = ⊥
 
--- A question whether P holds, which needs Grevlex bases of these lists.
-abbrev pub meaning_of_verdict : Type 0 → (List Polynomial → Type 0) → (List Polynomial → Type 0) → Meaning
-meaning_of_verdict P IsList IsProduct = record { answer = IsVerdict P; lists = RunFor Grevlex IsList; products = IsProduct }
+-- A question whether P holds, which needs bases of these lists, each for its order.
+abbrev pub meaning_of_verdict : Type 0 → (OrderName → List Polynomial → Type 0) → (List Polynomial → Type 0) → Meaning
+meaning_of_verdict P IsList IsProduct = record { answer = IsVerdict P; lists = IsList; products = IsProduct }
 
 abbrev pub IsLater : Answer → Type 0
 IsLater Later = Unit {0}

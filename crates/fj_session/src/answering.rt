@@ -10,6 +10,7 @@ use super::ideals::{are_same, colon, declared, is_member, meet, power, product, 
 use super::limits::{is_jump, is_regular, left, test};
 use super::part_rows::part_rows;
 use super::shown::{shown_basis, shown_kept};
+use super::splittings::{is_compatible, is_pure, is_pure_at, split};
 use super::types::Answer;
 use fj_basis::Stop;
 use fj_coeff::{Coeff, OverField, over_prime_field};
@@ -29,6 +30,10 @@ use std::alloc::{AllocError, Global};
 /// - `test F t`, `left F t`: the test ideal of F^t, and the limit from the left of the test ideals of F at t, the same way.
 /// - `member F J`, `same J K`: whether F is in J, whether J and K are one ideal.
 /// - `isjump F t`, `regular F t`: whether t is an F-jumping number of F, whether 1 is in the test ideal of F^t.
+/// - `fpure J`: whether the ring of polynomials modulo J is F-pure (Hochster and Roberts 1976, Fedder 1983). `fpure J P`:
+///   whether it is so at the point P, and `Off` where P isn't a zero of J. `split J`: the root at 1 of J^[p] : J, by its
+///   reduced basis for the printing order.
+/// - `compatible e U J`: whether J is compatible with U at e (Schwede 2009).
 /// - Other questions are left for later.
 ///
 /// The question stops only where a run on one of its lists, which is kept with its order, makes all turns of the question's
@@ -123,6 +128,12 @@ fn found<K: Coeff>(alloc: Global, env: &Env, asked: &Asked) -> Result<Answer, St
         Question::Left { f, t } => printed(alloc, asked, left::<K>(alloc, env, budget, f, &t)),
         Question::IsJump { f, t } => judged(is_jump::<K>(alloc, env, budget, f, &t)),
         Question::Regular { f, t } => judged(is_regular::<K>(alloc, env, budget, f, &t)),
+        Question::Pure { j } => judged(is_pure::<K>(alloc, env, budget, j)),
+        Question::PureAt { j, at } => is_pure_at::<K>(alloc, env, budget, j, at),
+        Question::Split { j } => printed(alloc, asked, split::<K>(alloc, env, budget, j)),
+        Question::Compatible { e, u, j } => {
+            judged(is_compatible::<K>(alloc, env, budget, e, u, j))
+        }
         _ => Ok(Answer::Later),
     }
 }

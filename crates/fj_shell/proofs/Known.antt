@@ -18,11 +18,11 @@ use Rattle.fj_script.specs.declared.script.Env.{Env}
 use Rattle.fj_script.specs.declared.value.Value as held
 use Rattle.fj_script.specs.declared.value.Value.TheVariants as values
 use Rattle.fj_script.specs.Seen.{seen, seen_values}
-use Rattle.fj_script.specs.Session.{Terms, Value, Poly, Ideal, is_nonconstant}
+use Rattle.fj_script.specs.Session.{Terms, Value, Poly, Ideal, Point, is_nonconstant}
 use Rattle.fj_script.proofs.Accepted.{accepted_sound}
-use Rattle.fj_script.proofs.AcceptedArguments.{IsExponent, IsSoundQuestion, NamesIdeal, NamesNonconstant, NamesPoly, is_ideal, is_nonconstant_poly, is_poly}
+use Rattle.fj_script.proofs.AcceptedArguments.{IsExponent, IsSoundQuestion, NamesIdeal, NamesNonconstant, NamesPoint, NamesPoly, is_ideal, is_nonconstant_poly, is_point, is_poly}
 use Rattle.fj_script.proofs.AcceptedDeclarations.{AreSound, IsSoundAsked, IsSoundValue}
-use Rattle.fj_shell.specs.Asked.{AreOfOneSession, IsIdealAt, IsNonconstantAt, IsPartsQuestion, IsPolyAt}
+use Rattle.fj_shell.specs.Asked.{AreOfOneSession, IsIdealAt, IsNonconstantAt, IsPartsQuestion, IsPointAt, IsPolyAt}
 use Rattle.fj_shell.proofs.Nonconstant.{has_small_degree}
 
 -- The values of a ring are over GF(p), in its variables.
@@ -138,6 +138,17 @@ module _ (env : Env) (place : ℕ) where
             }
         by (values.Point cs) gs e is sound = absurd cc
 
+    pub point_at : NamesPoint (seen_values env.values) place → IsPointAt env place
+    point_at h =
+        let b = behind h.name h.value h.is in
+        let shape = is_point h.value h.fits in
+        by b.0 shape.0 b.1 (sym b.2 ∙ shape.1) (subst (IsSoundValue env.p (length env.vars)) b.2 (sound_at h.name h.value h.is))
+      where
+        by : (v : held.Value) (cs : List ℕ) → slice_get env.values place ≡ Some (h.name, v) → seen v ≡ Point cs → IsSoundValue env.p (length env.vars) (seen v) → IsPointAt env place
+        by (values.Poly f) cs e is sound = absurd cc
+        by (values.Ideal fs) cs e is sound = absurd cc
+        by (values.Point ds) cs e is sound = record { name = h.name; coordinates = ds; stands = e; below = sound.1; long = sound.0 }
+
 pub prime_known : (env : Env) (asked : Asked) → AreOfOneSession env asked → Contains primes env.p
 prime_known env asked one = (known env asked one).prime
 
@@ -214,3 +225,21 @@ power_question env asked e j one is = small_at env e j (values_known env asked o
 
 pub root_question : (env : Env) (asked : Asked) (e j : ℕ) → AreOfOneSession env asked → asked.question ≡ questions.Root e j → (e ≤ 12) × IsIdealAt env j
 root_question env asked e j one is = small_at env e j (values_known env asked one) (question_known env asked (questions.Root e j) one is)
+
+pub pure_question : (env : Env) (asked : Asked) (j : ℕ) → AreOfOneSession env asked → asked.question ≡ questions.Pure j → IsIdealAt env j
+pure_question env asked j one is = ideal_at env j (values_known env asked one) (question_known env asked (questions.Pure j) one is)
+
+pub pure_at_question : (env : Env) (asked : Asked) (j at : ℕ) → AreOfOneSession env asked → asked.question ≡ questions.PureAt j at → IsIdealAt env j × IsPointAt env at
+pure_at_question env asked j at one is =
+    let q = question_known env asked (questions.PureAt j at) one is in
+    let vs = values_known env asked one in
+    (ideal_at env j vs q.0, point_at env at vs q.1)
+
+pub split_question : (env : Env) (asked : Asked) (j : ℕ) → AreOfOneSession env asked → asked.question ≡ questions.Split j → IsIdealAt env j
+split_question env asked j one is = ideal_at env j (values_known env asked one) (question_known env asked (questions.Split j) one is)
+
+pub compatible_question : (env : Env) (asked : Asked) (e u j : ℕ) → AreOfOneSession env asked → asked.question ≡ questions.Compatible e u j → (e ≤ 12) × IsPolyAt env u × IsIdealAt env j
+compatible_question env asked e u j one is =
+    let q = question_known env asked (questions.Compatible e u j) one is in
+    let vs = values_known env asked one in
+    (q.0, poly_at env u vs q.1, ideal_at env j vs q.2)

@@ -50,6 +50,14 @@ pub record IsIdealAt (env : Env) (place : ℕ) : Type 0 where
   pub low : All (λ g. All (λ t. total t.0 ≤ 2 ^ 40) g.terms) gens
   pub variables : All (λ g. UsesFirst (length env.vars) (polynomial g)) gens
 
+-- The name at this place stands for a point over GF(p), with a coordinate for each variable of the ring.
+pub record IsPointAt (env : Env) (place : ℕ) : Type 0 where
+  pub name : List ℕ
+  pub coordinates : List ℕ
+  pub stands : slice_get env.values place ≡ Some (name, values.Point coordinates)
+  pub below : All (λ c. c < env.p) coordinates
+  pub long : length coordinates ≡ length env.vars
+
 -- What is known of a question for parts in an accepted session.
 pub record IsPartsQuestion (env : Env) (e place : ℕ) : Type 0 where
   pub prime : Contains primes env.p

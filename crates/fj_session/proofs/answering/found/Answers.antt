@@ -3,9 +3,9 @@ use Rattle.std.proofs.lemmas.Result.{IfOk-weaker}
 use Rattle.fj_ideal.specs.Ideal.{IsIdealOf}
 use Rattle.fj_script.specs.declared.question.Question.TheVariants as questions
 use Rattle.fj_shell.specs.Named.{ideal_at}
-use Rattle.fj_shell.proofs.Known.{basis_question, colon_question, is_jump_question, left_question, meet_question, member_question, parts_question, power_question, product_question, regular_question, root_question, same_question, sum_question, test_question}
+use Rattle.fj_shell.proofs.Known.{basis_question, colon_question, compatible_question, is_jump_question, left_question, meet_question, member_question, parts_question, power_question, product_question, pure_at_question, pure_question, regular_question, root_question, same_question, split_question, sum_question, test_question}
 use Rattle.fj_session.specs.Outcome.{IsIdealFor}
-use Rattle.fj_session.proofs.Printed.{declared_for, found_as, found_ideal, found_verdict}
+use Rattle.fj_session.proofs.Printed.{declared_for, found_as, found_ideal, found_purity, found_verdict}
 use Rattle.fj_session.proofs.answering.found.Goals as goal
 
 pub polynomial_at-f-requires : goal.polynomial_at-f-requires
@@ -149,3 +149,44 @@ is_regular-requires-clause-named g c = (regular_question c.args.env.now c.args.a
 
 pub is_regular-requires-clause-at_most : goal.is_regular-requires-clause-at_most
 is_regular-requires-clause-at_most g c = (regular_question c.args.env.now c.args.asked.now c.in-Regular.f c.in-Regular.t c.requires.session c.in-Regular.is).1.low
+
+pub is_pure-requires-clause-named : goal.is_pure-requires-clause-named
+is_pure-requires-clause-named g c = pure_question c.args.env.now c.args.asked.now c.in-Pure.j c.requires.session c.in-Pure.is
+
+pub returns-in-Pure : goal.returns-in-Pure
+returns-in-Pure g c =
+    found_as g.K.Coeff.field c.args.env.now c.args.asked.now (questions.Pure c.in-Pure.j) c.in-Pure.is c.judged-in-Pure.result
+    (found_verdict _ _ _ _ _ _ c.is_pure.result c.judged-in-Pure.result c.judged-in-Pure.ensures c.is_pure.ensures.verdict c.is_pure.ensures.stop)
+
+pub is_pure_at-requires-clause-ideal : goal.is_pure_at-requires-clause-ideal
+is_pure_at-requires-clause-ideal g c = (pure_at_question c.args.env.now c.args.asked.now c.in-PureAt.j c.in-PureAt.at c.requires.session c.in-PureAt.is).0
+
+pub is_pure_at-requires-clause-point : goal.is_pure_at-requires-clause-point
+is_pure_at-requires-clause-point g c = (pure_at_question c.args.env.now c.args.asked.now c.in-PureAt.j c.in-PureAt.at c.requires.session c.in-PureAt.is).1
+
+pub returns-in-PureAt : goal.returns-in-PureAt
+returns-in-PureAt g c =
+    found_as g.K.Coeff.field c.args.env.now c.args.asked.now (questions.PureAt c.in-PureAt.j c.in-PureAt.at) c.in-PureAt.is c.is_pure_at.result
+    (found_purity _ _ _ _ _ c.is_pure_at.result c.is_pure_at.ensures.answer c.is_pure_at.ensures.stop)
+
+pub split-requires-clause-named : goal.split-requires-clause-named
+split-requires-clause-named g c = split_question c.args.env.now c.args.asked.now c.in-Split.j c.requires.session c.in-Split.is
+
+pub returns-in-Split : goal.returns-in-Split
+returns-in-Split g c =
+    found_as g.K.Coeff.field c.args.env.now c.args.asked.now (questions.Split c.in-Split.j) c.in-Split.is c.printed-in-Split.result
+    (found_ideal g.met.K.Coeff.lawful _ _ _ _ _ c.split.result c.printed-in-Split.result c.printed-in-Split.ensures c.split.ensures.ideal c.split.ensures.stop)
+
+pub is_compatible-requires-clause-small : goal.is_compatible-requires-clause-small
+is_compatible-requires-clause-small g c = (compatible_question c.args.env.now c.args.asked.now c.in-Compatible.e c.in-Compatible.u c.in-Compatible.j c.requires.session c.in-Compatible.is).0
+
+pub is_compatible-requires-clause-polynomial : goal.is_compatible-requires-clause-polynomial
+is_compatible-requires-clause-polynomial g c = (compatible_question c.args.env.now c.args.asked.now c.in-Compatible.e c.in-Compatible.u c.in-Compatible.j c.requires.session c.in-Compatible.is).1
+
+pub is_compatible-requires-clause-ideal : goal.is_compatible-requires-clause-ideal
+is_compatible-requires-clause-ideal g c = (compatible_question c.args.env.now c.args.asked.now c.in-Compatible.e c.in-Compatible.u c.in-Compatible.j c.requires.session c.in-Compatible.is).2
+
+pub returns-in-Compatible : goal.returns-in-Compatible
+returns-in-Compatible g c =
+    found_as g.K.Coeff.field c.args.env.now c.args.asked.now (questions.Compatible c.in-Compatible.e c.in-Compatible.u c.in-Compatible.j) c.in-Compatible.is c.judged-in-Compatible.result
+    (found_verdict _ _ _ _ _ _ c.is_compatible.result c.judged-in-Compatible.result c.judged-in-Compatible.ensures c.is_compatible.ensures.verdict c.is_compatible.ensures.stop)
