@@ -27,3 +27,4 @@ pub mod NextMember
 pub mod Turning
 pub mod Starting
 pub mod Copies
+pub mod Dividing
