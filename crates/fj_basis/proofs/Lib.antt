@@ -29,3 +29,4 @@ pub mod NextMember
 pub mod Turning
 pub mod Starting
 pub mod Copies
+pub mod Dividing

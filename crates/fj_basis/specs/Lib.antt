@@ -9,3 +9,4 @@ pub mod State
 pub mod Outcome
 pub mod Finished
 pub mod Basis
+pub mod Leads
