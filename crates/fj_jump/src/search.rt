@@ -1,0 +1,1 @@
+//! The search for F-jumping numbers among the candidates, by bisection.
