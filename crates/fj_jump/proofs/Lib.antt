@@ -1,0 +1,3 @@
+pub mod Bisection
+pub mod Chosen
+pub mod Count
