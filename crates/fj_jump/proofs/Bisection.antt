@@ -23,7 +23,7 @@ use Rattle.fj_chain.specs.Lists.{IsLastTestList}
 use Rattle.fj_jump.specs.declared.rows.GapRow.{GapRow}
 use Rattle.fj_jump.specs.declared.rows.JumpRow.{JumpRow}
 use Rattle.fj_jump.specs.Rows.{gap_of}
-use Rattle.fj_jump.specs.Search.{AreFoundBetween, AreRowsOfGaps, AreRowsOfJumps, HasRowWhereChanged, IsMadeOfLastList, IsRowOfGap, IsRowOfJump}
+use Rattle.fj_jump.specs.Search.{AreFoundBetween, AreRowsOfGaps, AreRowsOfJumps, HasRowWhereChanged, IsMadeOfLastList, IsRowOfGap, IsRowOfJump, RiseBetween}
 use Rattle.fj_jump.proofs.Chosen.{chosen_append, chosen_none}
 
 -- The gaps of a list in two parts that share the exponent m.
@@ -46,10 +46,6 @@ rising_right : (ts us : List Fraction) → IsStrictlySortedBy compare (ts ++ us)
 unfolding IsStrictlySortedBy
 rising_right [] us h = h
 rising_right (t ∷ ts) us h = rising_right ts us h.1
-
--- The exponents ts rise strictly between s and t.
-abbrev pub RiseBetween : Fraction → List Fraction → Fraction → Type 0
-RiseBetween s ts t = IsStrictlySortedBy compare (s ∷ (ts ++ t ∷ []))
 
 module _ (s m t : Fraction) (below above : List Fraction) (rising : RiseBetween s (below ++ m ∷ above) t) where
   pub lower_rises : RiseBetween s below m

@@ -1,3 +1,5 @@
 pub mod Bisection
 pub mod Chosen
 pub mod Count
+pub mod Settling
+pub mod Unit

@@ -1,8 +1,10 @@
 -- What a search tells of an interval of candidates, over a field F.
 use Rattle.std.specs.Prelude.{◌≡◌, ◌⊎◌, List, [], ◌∷◌, ◌++◌}
+use Rattle.std.proofs.Common.{lit<}
+use Rattle.std.specs.List.Sorted.{IsStrictlySortedBy}
 use Rattle.fj_coeff.specs.Field.{Field}
 use Rattle.fj_theory.specs.Candidates.{Gap, neighbours}
-use Rattle.fj_theory.specs.Fraction.{Fraction}
+use Rattle.fj_theory.specs.Fraction.{Fraction, compare}
 use Rattle.fj_theory.specs.Ideal.{SameIdeal}
 use Rattle.fj_theory.specs.Polynomial.{Polynomial}
 use Rattle.fj_ideal.specs.Ideal.{IsIdeal, WithBasis}
@@ -45,7 +47,15 @@ pub record AreFoundBetween {K : Type 0} (F : Field) (f : Polynomial) (s : Fracti
   pub jumps_are : AreRowsOfJumps F f ts jumps
   pub gaps_are : AreRowsOfGaps F f (neighbours s (ts ++ t ∷ [])) gaps
 
+-- The exponents ts rise strictly between s and t.
+abbrev pub RiseBetween : Fraction → List Fraction → Fraction → Type 0
+RiseBetween s ts t = IsStrictlySortedBy compare (s ∷ (ts ++ t ∷ []))
+
 -- A row for t has come to the rows where T, the test ideal there, isn't the left limit S.
 abbrev pub HasRowWhereChanged : {K : Type 0} → Field → Fraction → List Polynomial → WithBasis → List (JumpRow K) → List (JumpRow K) → Type 0
 HasRowWhereChanged F t S T before after =
     (SameIdeal F S T.given × (after ≡ before)) ⊎ ((SameIdeal F S T.given → ⊥) × (after ≡ before ++ record { at = t; ideal = T } ∷ []))
+
+-- The fraction 0, at which the first gap begins.
+abbrev pub zero_fraction : Fraction
+zero_fraction = record { numerator = 0; denominator = 1; positive = lit< tt }

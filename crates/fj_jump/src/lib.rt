@@ -2,9 +2,11 @@
 //! the test ideals (Blickle, Mustață and Smith 2008).
 #![tactic(auto)]
 
+mod bisecting;
 mod limits;
 mod rows;
-mod search;
 
+pub use bisecting::search;
 pub use limits::Limits;
 pub use rows::{GapList, GapRow, JumpList, JumpRow, Jumps};
+

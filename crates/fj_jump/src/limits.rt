@@ -1,5 +1,5 @@
 //! The limits of a polynomial at exponents, with a count of the exponents that were asked for.
-ghost use Rattle.std.specs.Prelude.{◌≡◌, IfOk};
+ghost use Rattle.std.specs.Prelude.{◌≡◌, ◌≤◌, IfOk};
 ghost use Rattle.fj_theory.specs.Fraction.{IsInUnitInterval};
 ghost use Rattle.fj_theory.specs.Polynomial.{IsPolynomial};
 ghost use Rattle.fj_plain.specs.declared.order_name.OrderName.TheVariants as orders;
@@ -77,6 +77,7 @@ impl<K: Coeff> Limits<K> {
         ensures f { self.new.f ≡ self.old.f }
         ensures pairs { self.new.pairs ≡ self.old.pairs }
         ensures counted { self.new.evaluated ≡ next_count self.old.evaluated }
+        ensures not_below { self.old.evaluated ≤ self.new.evaluated }
         ensures stop { StopsOnlyWith K.field (RunFor orders.Grevlex (IsJumpList K.field self.old.f t.now)) (IsHighInJump K.field self.old.f t.now) self.old.pairs result }
     {
         // f is a polynomial over K.

@@ -1,1 +1,0 @@
-//! The search for F-jumping numbers among the candidates, by bisection.
