@@ -1,5 +1,5 @@
 -- The steps of the bisection as the code makes them.
-use Rattle.std.proofs.Common.{◌≡◌, ◌⊎◌, inl, inr, ℕ, zero, suc, ◌+◌, ◌*◌, ◌<◌, ◌≤◌, List, [], ◌∷◌, ◌++◌, length, take, drop, get_or, Contains, All, Result, refl, sym, ap, ap₂, ◌∙◌, subst, arith, ◌-◌}
+use Rattle.std.proofs.Common.{◌≡◌, ◌⊎◌, inl, inr, ℕ, zero, suc, ◌+◌, ◌*◌, ◌<◌, ◌≤◌, List, [], ◌∷◌, ◌++◌, length, take, drop, get_or, Contains, All, Bool, IsTrue, ◌==◌, eqb-true, ◌↔◌, Result, Ok, Err, refl, sym, ap, ap₂, ◌∙◌, subst, arith, ◌-◌}
 use Rattle.std.specs.Result.{IsErrAnd}
 use Rattle.std.proofs.lemmas.List.{length-append, take-append-drop, take_all}
 use Rattle.std.proofs.lemmas.List.Elements.{All-contains, All-tail, Contains-append_left, Contains-append_right}
@@ -12,9 +12,10 @@ use Rattle.fj_theory.specs.Polynomial.{Polynomial, IsPolynomial}
 use Rattle.fj_theory.proofs.Ideal.{SameIdeal-trans}
 use Rattle.fj_plain.specs.declared.order_name.OrderName.TheVariants.{Grevlex}
 use Rattle.fj_basis.specs.declared.stop.Stop.{Stop}
+use Rattle.fj_basis.specs.declared.stop.Stop.TheVariants.{Memory}
 use Rattle.fj_ideal.specs.Ideal.{IsIdeal, WithBasis}
 use Rattle.fj_ideal.specs.Lists.{RunFor}
-use Rattle.fj_ideal.specs.Stop.{IsCauseOf, IsWritten, StopsOnlyWith}
+use Rattle.fj_ideal.specs.Stop.{IsAnswered, IsCauseOf, IsWritten, StopsOnlyWith}
 use Rattle.fj_ideal.proofs.Stops.{only_handed_on}
 use Rattle.fj_testideal.specs.TestIdeal.{IsLeftLimit, IsTestIdeal}
 use Rattle.fj_testideal.proofs.Jump.{ArePolynomials-IsTestIdeal}
@@ -141,3 +142,12 @@ halves_fit F m S T first changed second lower upper C =
 pub some_rows : {P : Type 0} (rows : ℕ) → (rows ≡ 0 → P) → (P → ⊥) → 0 < rows
 some_rows zero none not = absurd (not (none refl))
 some_rows (suc n) none not = omega arith
+
+-- Want of memory is an answer.
+pub memory_answered : {T : Type 0} (r : Result T Stop) → IsErrAnd r (λ y. y ≡ Memory) → IsAnswered r
+memory_answered (Ok x) is = tt
+memory_answered {T} (Err e) is = subst (λ (s : Stop). IsAnswered {T = T} (Err s)) (sym is) tt
+
+pub none_told : {X : Type 0} (xs : List X) (b : Bool) → b ≡ (length xs == 0) → IsTrue b ↔ (xs ≡ [])
+none_told [] b e = (λ told. refl, λ none. e)
+none_told (x ∷ xs) b e = (λ told. absurd (let same : length (x ∷ xs) ≡ 0 = eqb-true (length (x ∷ xs)) 0 (sym e ∙ told) in omega (arith, same)), λ none. absurd (let same = ap length none in omega (arith, same)))
