@@ -1,0 +1,3 @@
+pub mod DigitLists
+pub mod NuByDigits
+pub mod Within
