@@ -1,11 +1,15 @@
 -- The lists that nu and thresholds of a polynomial f at an ideal (J) run, and the products that they form, over a field F. The
 -- digits of a number come the highest first.
-use Rattle.std.specs.Prelude.{ℕ, ◌<◌, List, [], ◌∷◌, ◌++◌, length, All}
+use Rattle.std.specs.Prelude.{◌≡◌, ◌⊎◌, ℕ, ◌<◌, List, [], ◌∷◌, ◌++◌, length, All}
 use Rattle.fj_coeff.specs.Field.{Field}
+use Rattle.fj_theory.specs.Candidates.{IsCandidate}
 use Rattle.fj_theory.specs.Digits.{value_of}
+use Rattle.fj_theory.specs.Evaluation.{value}
+use Rattle.fj_theory.specs.Fraction.{Fraction}
+use Rattle.fj_theory.specs.PointIdeal.{point_ideal}
 use Rattle.fj_theory.specs.Polynomial.{Polynomial}
 use Rattle.fj_testideal.specs.Threshold.{IsNu}
-use Rattle.fj_chain.specs.Lists.{IsDigitList, IsHighInDigits}
+use Rattle.fj_chain.specs.Lists.{IsDigitList, IsHighInDigits, IsHighInJump, IsJumpList}
 use Rattle.fj_thresh.specs.Answer.{IsProperWith}
 
 -- The digits write nu(k) in base p, k being their number.
@@ -39,3 +43,27 @@ pub record IsHighInNu (F : Field) (e : ℕ) (f : Polynomial) (J L : List Polynom
   pub few : length digits < e
   pub written : WriteNu F f J digits
   pub high : IsHighInLongerDigits F f digits L
+
+-- The lists of the threshold of f at (J) among the candidates of C_E: none where (J) isn't proper or f isn't in it. Else the test
+-- lists and the left lists of each candidate.
+pub record IsThresholdList (F : Field) (E : ℕ) (f : Polynomial) (J L : List Polynomial) : Type 0 where
+  pub within : IsProperWith F J f
+  pub at : Fraction
+  pub candidate : IsCandidate F.characteristic E at
+  pub list : IsJumpList F f at L
+
+pub record IsHighInThreshold (F : Field) (E : ℕ) (f : Polynomial) (J L : List Polynomial) : Type 0 where
+  pub within : IsProperWith F J f
+  pub at : Fraction
+  pub candidate : IsCandidate F.characteristic E at
+  pub high : IsHighInJump F f at L
+
+-- The lists of the threshold of f at a point in the first n variables: none where f isn't zero there. Else the polynomials
+-- x_i - c_i, and the lists of the threshold at their ideal.
+pub record IsPointThresholdList (F : Field) (E : ℕ) (f : Polynomial) (n : ℕ) (point : List ℕ) (L : List Polynomial) : Type 0 where
+  pub zero_there : value F f point ≡ 0
+  pub list : (L ≡ point_ideal F n point) ⊎ IsThresholdList F E f (point_ideal F n point) L
+
+pub record IsHighInPointThreshold (F : Field) (E : ℕ) (f : Polynomial) (n : ℕ) (point : List ℕ) (L : List Polynomial) : Type 0 where
+  pub zero_there : value F f point ≡ 0
+  pub high : IsHighInThreshold F E f (point_ideal F n point) L

@@ -3,7 +3,11 @@
 #![tactic(auto)]
 
 mod digits;
+mod point;
 mod powers;
+mod search;
 pub mod types;
 
+pub use point::threshold_at;
 pub use powers::nu;
+pub use search::threshold;
