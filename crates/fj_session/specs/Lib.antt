@@ -1,5 +1,6 @@
 pub mod Meaning
 pub mod Ideals
+pub mod Limits
 pub mod Statement
 pub mod Answer
 pub mod AnswerLaws

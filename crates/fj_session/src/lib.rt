@@ -4,6 +4,7 @@
 mod answering;
 mod ideals;
 pub mod laws;
+mod limits;
 mod part_rows;
 mod printing;
 mod program;

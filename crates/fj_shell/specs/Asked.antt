@@ -1,9 +1,10 @@
 -- Questions of accepted sessions.
-use Rattle.std.specs.Prelude.{◌≡◌, ℕ, ◌≤◌, ◌^◌, List, All, Contains, Ok, Some, length, slice_get}
+use Rattle.std.specs.Prelude.{◌≡◌, ℕ, ◌<◌, ◌≤◌, ◌^◌, List, All, Contains, Ok, Some, length, slice_get}
 use Rattle.fj_coeff.specs.Field.{primes}
 use Rattle.fj_theory.specs.Exponents.{total}
 use Rattle.fj_theory.specs.Plain.{HasRanksBelow, PlainPolynomial, polynomial}
 use Rattle.fj_theory.specs.PointIdeal.{UsesFirst}
+use Rattle.fj_theory.specs.Polynomial.{degree}
 use Rattle.fj_script.specs.declared.question.Asked.{Asked}
 use Rattle.fj_script.specs.declared.script.Env.{Env}
 use Rattle.fj_script.specs.declared.script.Script.{Script}
@@ -31,6 +32,14 @@ pub record IsPolyAt (env : Env) (place : ℕ) : Type 0 where
   pub ranks : HasRanksBelow env.p f
   pub low : All (λ t. total t.0 ≤ 2 ^ 40) f.terms
   pub variables : UsesFirst (length env.vars) (polynomial f)
+
+-- It isn't constant, and has a degree of at most 1,000.
+pub record IsNonconstantAt (env : Env) (place : ℕ) : Type 0 where
+  pub poly : IsPolyAt env place
+  pub total : ℕ
+  pub has_degree : degree (polynomial poly.f) ≡ Some total
+  pub nonconstant : 0 < total
+  pub bounded : total ≤ 1000
 
 -- The name at this place stands for an ideal, whose generators are over GF(p) in the variables of the ring.
 pub record IsIdealAt (env : Env) (place : ℕ) : Type 0 where
