@@ -1,29 +1,27 @@
 -- What the ends of an interval of exponents tell of it, and what two halves tell of the whole.
-use Rattle.std.proofs.Common.{◌≡◌, ◌⊎◌, inl, inr, ℕ, ◌<◌, ◌≤◌, List, [], ◌∷◌, ◌++◌, Contains, refl, sym, ap, ◌∙◌, subst, arith}
+use Rattle.std.proofs.Common.{◌≡◌, inl, inr, ◌<◌, List, [], ◌∷◌, ◌++◌, Contains, refl, sym, ap, ◌∙◌, subst, arith}
 use Rattle.std.proofs.lemmas.List.{append_assoc, append-nil}
 use Rattle.std.specs.declared.cmp.Ordering.TheVariants.{Less}
 use Rattle.std.specs.List.{AllByRecursion}
 use Rattle.std.specs.List.Sorted.{IsStrictlySortedBy}
 use Rattle.std.proofs.lemmas.List.Elements.{All-contains, All-from_recursion, Contains-append_left, Contains-push, Contains-push_cases}
 use Rattle.fj_coeff.specs.Field.{Field, IsField}
-use Rattle.fj_algebra.proofs.Pairs.{contains_cons, contains_head, contains_tail, contains_nil}
+use Rattle.fj_algebra.proofs.Pairs.{contains_cons, contains_nil}
 use Rattle.fj_theory.specs.Candidates.{Gap, neighbours}
 use Rattle.fj_theory.specs.Fraction.{Fraction, IsAtMost, compare}
 use Rattle.fj_theory.specs.Ideal.{SameIdeal}
 use Rattle.fj_theory.specs.Polynomial.{Polynomial, IsPolynomial}
 use Rattle.fj_ideal.specs.Ideal.{IsIdeal, WithBasis}
 use Rattle.fj_testideal.specs.Jump.{IsConstant, IsUnchangedAt}
-use Rattle.fj_testideal.specs.JumpList.{HasChange}
 use Rattle.fj_testideal.specs.TestIdeal.{IsLeftLimit, IsTestIdeal}
-use Rattle.fj_testideal.proofs.ConstantInside.{IsAtMost-trans, at_most_from_less, constant-smaller, left_limit-inside_constant, test_ideal-inside_constant}
+use Rattle.fj_testideal.proofs.ConstantInside.{at_most_from_less, constant-smaller, left_limit-inside_constant, test_ideal-inside_constant}
 use Rattle.fj_testideal.proofs.GapOrder.{gap_rises, lower_end, upper_end}
 use Rattle.fj_testideal.proofs.Jump.{ArePolynomials-IsTestIdeal, change_from_open, constant_from_equal, equal_from_constant, jump_from_difference}
 use Rattle.fj_testideal.proofs.TestIdeal.{IsLeftLimit-SameIdeal}
 use Rattle.fj_chain.specs.Lists.{IsLastTestList}
 use Rattle.fj_jump.specs.declared.rows.GapRow.{GapRow}
 use Rattle.fj_jump.specs.declared.rows.JumpRow.{JumpRow}
-use Rattle.fj_jump.specs.Rows.{gap_of}
-use Rattle.fj_jump.specs.Search.{AreFoundBetween, AreRowsOfGaps, AreRowsOfJumps, HasRowWhereChanged, IsMadeOfLastList, IsRowOfGap, IsRowOfJump, RiseBetween}
+use Rattle.fj_jump.specs.Search.{AreFoundBetween, AreRowsOfGaps, AreRowsOfJumps, HasRowWhereChanged, IsRowOfGap, IsRowOfJump, RiseBetween}
 use Rattle.fj_jump.proofs.Chosen.{chosen_append, chosen_none}
 
 -- The gaps of a list in two parts that share the exponent m.
@@ -129,10 +127,16 @@ module _ {K : Type 0} {F : Field} (L : IsField F) {f : Polynomial} (A : IsPolyno
       let row : GapRow = record { from = s; to = t } in
       record {
         jumps_are = refl;
-        gaps_are = inr (row, [], refl, record {
-          is = refl;
-          change = record { ideal = S; at_lower = I; change = change_from_open L A s t less I J (λ C. differ (equal_from_constant L A s t less I J C)) };
-        }, refl);
+        gaps_are = inr (
+          row,
+          [],
+          refl,
+          record {
+            is = refl;
+            change = record { ideal = S; at_lower = I; change = change_from_open L A s t less I J (λ C. differ (equal_from_constant L A s t less I J C)) };
+          },
+          refl,
+        );
       }
 
   -- An exponent is an F-jumping number where its test ideal isn't the left limit.

@@ -1,8 +1,7 @@
 -- How often a bisection asks.
-use Rattle.std.proofs.Common.{◌≡◌, ℕ, zero, suc, ◌+◌, ◌-◌, ◌*◌, ◌/◌, ◌^◌, ◌<◌, ◌≤◌, List, [], ◌∷◌, length, Contains, Any, arith, inl, inr, sym, ap, subst}
+use Rattle.std.proofs.Common.{◌≡◌, ℕ, zero, suc, ◌+◌, ◌*◌, ◌/◌, ◌^◌, ◌<◌, ◌≤◌, List, [], ◌∷◌, length, Contains, Any, arith, inl, inr, sym, ap, subst}
 use Rattle.std.proofs.Math.Nat.{mul-le-mul_right, pow-suc}
 use Rattle.std.specs.declared.cmp.Ordering.TheVariants.{Less}
-use Rattle.std.specs.List.{AllByRecursion}
 use Rattle.std.specs.List.Sorted.{IsStrictlySortedBy}
 use Rattle.std.proofs.lemmas.List.Elements.{All-contains, All-from_recursion}
 use Rattle.fj_algebra.proofs.Lists.{Any-element}
@@ -11,7 +10,7 @@ use Rattle.fj_theory.specs.Candidates.{AreCandidates, IsCandidate}
 use Rattle.fj_theory.specs.Fraction.{Fraction, SameValue, IsAtMost, compare}
 use Rattle.fj_theory.proofs.Fraction.{less_from_compare}
 use Rattle.fj_testideal.proofs.ConstantInside.{IsAtMost-trans, at_most_less, at_most_from_less}
-use Rattle.fj_jump.specs.Count.{HasBinaryDigits, RisesByFew, RisesByFewAmong, RisesWithinLength}
+use Rattle.fj_jump.specs.Count.{RisesByFew, RisesByFewAmong, RisesWithinLength}
 
 -- The middle one is asked, and then both halves.
 pub few_halves : (n first second rows fewer more before asked between after : ℕ) → first ≡ n / 2 → n ≡ first + 1 + second → asked ≤ before + 1

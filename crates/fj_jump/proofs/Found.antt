@@ -1,13 +1,13 @@
 -- What the rows of the whole interval from 0 to 1 tell: the F-jumping numbers of C_E, and its open gaps.
-use Rattle.std.proofs.Common.{◌≡◌, ◌↔◌, ◌⊎◌, inl, inr, ℕ, ◌+◌, ◌-◌, ◌*◌, ◌<◌, ◌≤◌, List, [], ◌∷◌, ◌++◌, length, take, get_or, map, All, Any, Contains, refl, sym, ap, ◌∙◌, subst, arith}
+use Rattle.std.proofs.Common.{◌≡◌, ◌↔◌, ◌⊎◌, inl, inr, ℕ, ◌+◌, ◌-◌, ◌<◌, ◌≤◌, List, [], ◌∷◌, ◌++◌, length, take, get_or, map, All, Any, Contains, refl, sym, ap, ◌∙◌, subst, arith}
 use Rattle.std.specs.declared.cmp.Ordering.TheVariants.{Less}
 use Rattle.std.specs.List.{AllByRecursion}
 use Rattle.std.specs.List.Sorted.{IsStrictlySortedBy}
 use Rattle.std.proofs.lemmas.List.{length-append, map-id, take_all, take_more}
 use Rattle.std.proofs.lemmas.List.Elements.{All-contains, All-map, recursion_from_All, Contains-append_left, Contains-push}
 use Rattle.fj_coeff.specs.Field.{Field, IsField}
-use Rattle.fj_algebra.proofs.Lists.{All-append_left, Any-element}
-use Rattle.fj_algebra.proofs.Pairs.{All-from_elements, contains_head, contains_map, contains_map_back, contains_nil}
+use Rattle.fj_algebra.proofs.Lists.{Any-element}
+use Rattle.fj_algebra.proofs.Pairs.{All-from_elements, contains_map, contains_map_back, contains_nil}
 use Rattle.fj_theory.specs.Candidates.{AreCandidates, Gap, IsCandidate, gaps, neighbours}
 use Rattle.fj_theory.specs.Fraction.{Fraction, IsInUnitInterval, SameValue, compare}
 use Rattle.fj_theory.specs.Polynomial.{Polynomial, IsPolynomial}
@@ -132,8 +132,8 @@ module _ {K : Type 0} {F : Field} (L : IsField F) {f : Polynomial} (A : IsPolyno
   rows_of_all ts inner last parts T first rows lower above J I made ideal H C =
       let more = rows_at L A last T first rows above J I made ideal C in (
         subst (λ us. AreRowsOfJumps F f us rows) (sym parts)
-        (subst (λ js. AreRowsOfJumps F f (inner ++ last ∷ []) js) (sym more.1)
-        (chosen_append (IsUnchangedAt F f) (IsRowOfJump F f) inner (last ∷ []) first more.0 H.jumps_are more.2)),
+            (subst (λ js. AreRowsOfJumps F f (inner ++ last ∷ []) js) (sym more.1)
+            (chosen_append (IsUnchangedAt F f) (IsRowOfJump F f) inner (last ∷ []) first more.0 H.jumps_are more.2)),
         subst (λ us. AreRowsOfGaps F f (neighbours zero_fraction us) lower) (sym parts) H.gaps_are,
       )
 

@@ -1,5 +1,5 @@
 -- The steps of the bisection as the code makes them.
-use Rattle.std.proofs.Common.{◌≡◌, ◌⊎◌, inl, inr, ℕ, zero, suc, ◌+◌, ◌*◌, ◌<◌, ◌≤◌, List, [], ◌∷◌, ◌++◌, length, take, drop, get_or, Contains, All, Bool, IsTrue, ◌==◌, eqb-true, ◌↔◌, Result, Ok, Err, refl, sym, ap, ap₂, ◌∙◌, subst, arith, ◌-◌}
+use Rattle.std.proofs.Common.{◌≡◌, inl, inr, ℕ, zero, suc, ◌+◌, ◌<◌, ◌≤◌, List, [], ◌∷◌, ◌++◌, length, take, drop, get_or, Contains, All, Bool, IsTrue, ◌==◌, eqb-true, ◌↔◌, Result, Ok, Err, refl, sym, ap, ap₂, ◌∙◌, subst, arith, ◌-◌}
 use Rattle.std.specs.Result.{IsErrAnd}
 use Rattle.std.proofs.lemmas.List.{length-append, take-append-drop, take_all}
 use Rattle.std.proofs.lemmas.List.Elements.{All-contains, All-tail, Contains-append_left, Contains-append_right}
@@ -7,7 +7,7 @@ use Rattle.fj_coeff.specs.Field.{Field, IsField}
 use Rattle.fj_algebra.proofs.Lists.{All-append_left, All-append_right}
 use Rattle.fj_algebra.proofs.Pairs.{contains_head, contains_tail}
 use Rattle.fj_theory.specs.Fraction.{Fraction, IsInUnitInterval}
-use Rattle.fj_theory.specs.Ideal.{ArePolynomials, SameIdeal}
+use Rattle.fj_theory.specs.Ideal.{SameIdeal}
 use Rattle.fj_theory.specs.Polynomial.{Polynomial, IsPolynomial}
 use Rattle.fj_theory.proofs.Ideal.{SameIdeal-trans}
 use Rattle.fj_plain.specs.declared.order_name.OrderName.TheVariants.{Grevlex}

@@ -1,5 +1,5 @@
 -- The fraction 0, and the unit ideal, its test ideal.
-use Rattle.std.proofs.Common.{◌≡◌, ◌↔◌, ℕ, ◌<◌, List, [], ◌∷◌, Result, Ok, Err, refl, ap₂, ◌⊎◌, inl, inr, arith}
+use Rattle.std.proofs.Common.{◌≡◌, ◌↔◌, ℕ, [], ◌∷◌, Result, Ok, Err, refl, ap₂, inl, inr, arith}
 use Rattle.std.proofs.Math.Nat.{one-dvd}
 use Rattle.std.specs.Result.{IsErrOf, IsOk}
 use Rattle.std.proofs.lemmas.List.Elements.{All-head}

@@ -1,5 +1,5 @@
 -- What contracts see of limits: the polynomial, the turn budget, and the count of exponents that were asked for.
-use Rattle.std.specs.Prelude.{◌≡◌, ℕ, ◌+◌, ◌-◌, ◌^◌, min, List}
+use Rattle.std.specs.Prelude.{◌≡◌, ℕ, ◌+◌, ◌-◌, ◌^◌, min}
 use Rattle.std.specs.FinMap.{code}
 use Rattle.std.specs.Coded.{Coded, coded_list, coded×, coded_ℕ}
 use base.Stored.{coded_via}

@@ -9,4 +9,3 @@ mod rows;
 pub use bisecting::search;
 pub use limits::Limits;
 pub use rows::{GapList, GapRow, JumpList, JumpRow, Jumps};
-

@@ -1,6 +1,5 @@
-use Rattle.std.proofs.Common.{◌≡◌, ◌+◌, ◌-◌, ◌<◌, ℕ, List, [], ◌∷◌, ◌++◌, All, Contains, length, drop, take, sym, ap, ap₂, ◌∙◌, subst, true≢false, arith}
-use Rattle.fj_theory.specs.Fraction.{Fraction, IsInUnitInterval}
-use Rattle.fj_theory.specs.Ideal.{SameIdeal}
+use Rattle.std.proofs.Common.{◌≡◌, ◌+◌, ◌-◌, ℕ, List, [], ◌∷◌, Contains, length, drop, take, sym, ap₂, ◌∙◌, subst, true≢false, arith}
+use Rattle.fj_theory.specs.Fraction.{Fraction}
 use Rattle.fj_theory.specs.Polynomial.{Polynomial, IsPolynomial}
 use Rattle.fj_testideal.specs.TestIdeal.{IsLeftLimit, IsTestIdeal}
 use Rattle.fj_jump.specs.Count.{RisesByFewAmong}

@@ -1,6 +1,6 @@
-use Rattle.std.proofs.Common.{◌≡◌, ◌+◌, ◌-◌, ◌<◌, ◌≤◌, ◌∙◌, ℕ, List, [], ◌∷◌, ◌++◌, All, Contains, length, take, map, ◌==◌, sym, ap, subst, refl, arith}
+use Rattle.std.proofs.Common.{◌≡◌, ◌+◌, ◌-◌, ◌<◌, ◌∙◌, ℕ, List, [], ◌∷◌, All, Contains, length, take, map, ◌==◌, sym, ap, subst, arith}
 use Rattle.std.proofs.lemmas.List.Elements.{All-contains}
-use Rattle.fj_theory.specs.Candidates.{AreCandidates, IsCandidate}
+use Rattle.fj_theory.specs.Candidates.{IsCandidate}
 use Rattle.fj_theory.specs.Exponents.{origin}
 use Rattle.fj_theory.specs.Fraction.{Fraction}
 use Rattle.fj_theory.specs.Polynomial.{Polynomial, IsPolynomial, term}

@@ -1,7 +1,4 @@
 use Rattle.std.proofs.Common.{◌∷◌, [], ◌∙◌, sym, ap, ap₂, subst}
-use Rattle.std.proofs.lemmas.List.Elements.{All-head}
-use Rattle.fj_theory.specs.Exponents.{origin}
-use Rattle.fj_theory.specs.Ideal.{Member}
 use Rattle.fj_theory.specs.MonomialOrder.{grevlex_key}
 use Rattle.fj_theory.specs.Polynomial.{term}
 use Rattle.fj_groebner.specs.ReducedBasis.{IsReducedBasis}
