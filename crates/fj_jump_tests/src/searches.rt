@@ -66,7 +66,7 @@ fn cusps_over_seven(rt: HostRuntime) -> Result<(), Fail> {
     let alloc = rt.alloc();
     for coefficient in [1, 6] {
         let f: Terms = &[([2, 0, 0], coefficient), ([0, 3, 0], 1)];
-        let mut limits = limits::<Fp<7>>(&rt, alloc, f, 100)?;
+        let mut limits = limits::<Fp<7>>(&rt, alloc, f, 10_000)?;
         let found = search(alloc, &mut limits, 1)?;
         is_complete(&rt, alloc, &found, &[(5, 6, &[Y, X]), (1, 1, &[f])])?;
         assert_eq!(rt; limits.evaluated(), 3);
@@ -80,7 +80,7 @@ fn node_over_seven(rt: HostRuntime) -> Result<(), Fail> {
     let alloc = rt.alloc();
     let f: Terms = &[([3, 0, 0], 6), ([2, 0, 0], 6), ([0, 2, 0], 1)];
     let monic: Terms = &[([3, 0, 0], 1), ([2, 0, 0], 1), ([0, 2, 0], 6)];
-    let mut limits = limits::<Fp<7>>(&rt, alloc, f, 100)?;
+    let mut limits = limits::<Fp<7>>(&rt, alloc, f, 10_000)?;
     let found = search(alloc, &mut limits, 1)?;
     is_complete(&rt, alloc, &found, &[(1, 1, &[monic])])?;
     assert_eq!(rt; limits.evaluated(), 1);
