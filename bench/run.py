@@ -3,8 +3,9 @@
 
 `bench/run.py [--turns] [WORKLOAD ..]`; the workloads are those of `bench/workloads.py`, all of them where none is
 named. The program is built by `bin/fjcalc`. A time is that of a processor, the least of up to five runs, less that of
-an empty session or script, so start-up is left out; below a thousandth of a second it says nothing. Macaulay2 takes
-over a second to start, so its script tells the time from after its packages on. A ratio is the program's time over the peer's; for `basis` Singular is asked for `liftstd`, which returns
+an empty session or script, so start-up is left out; below a thousandth of a second it says nothing, and for Singular
+below five. Macaulay2 starts in a second and answers in thousandths, so its script tells the time from after its packages
+on. A ratio is the program's time over the peer's; for `basis` Singular is asked for `liftstd`, which returns
 cofactors too, and in a column of its own for `std`, which doesn't. Where a peer has no call for a question (Singular
 for Frobenius roots) the ratio is left out, where its answers differ from the program's the row says so, and where it
 takes over a minute it is cut: the ratio is then below what is printed. A session with a question that the program
