@@ -8,7 +8,7 @@ below five. Macaulay2 starts in a second and answers in thousandths, so its scri
 on. A ratio is the program's time over the peer's; for `basis` Singular is asked for `liftstd`, which returns
 cofactors too, and in a column of its own for `std`, which doesn't. Where a peer has no call for a question (Singular
 for Frobenius roots) the ratio is left out, where its answers differ from the program's the row says so, and where it
-takes over a minute it is cut: the ratio is then below what is printed. A session with a question that the program
+takes over a minute of a processor it is cut: the ratio is then below what is printed. A session with a question that the program
 leaves for later is left out. With `--turns` the least budget with which no question is stopped is looked for, by
 bisection: the number of turns that the run takes.
 """
@@ -17,6 +17,7 @@ import dataclasses
 import os
 import pathlib
 import resource
+import signal
 import subprocess
 import sys
 import time
@@ -51,14 +52,14 @@ def run_once(command: list, text: str) -> Timed:
     before = resource.getrusage(resource.RUSAGE_CHILDREN)
     # Macaulay2's collector takes several processors where it is let.
     one_thread = os.environ | {"GC_MARKERS": "1", "OMP_NUM_THREADS": "1"}
-    was_cut = False
-    try:
-        done = subprocess.run(command, input=text, capture_output=True, text=True, timeout=LIMIT, env=one_thread)
-        lines = done.stdout.splitlines()
-    except subprocess.TimeoutExpired:
-        lines, was_cut = [], True
+    pipe = subprocess.PIPE
+    with subprocess.Popen(command, stdin=pipe, stdout=pipe, stderr=subprocess.DEVNULL, text=True, env=one_thread) as child:
+        resource.prlimit(child.pid, resource.RLIMIT_CPU, (LIMIT, LIMIT))
+        output, _ = child.communicate(text)
     after = resource.getrusage(resource.RUSAGE_CHILDREN)
-    return Timed(lines, after.ru_utime + after.ru_stime - before.ru_utime - before.ru_stime, was_cut)
+    was_cut = child.returncode in (-signal.SIGKILL, -signal.SIGXCPU)
+    seconds = after.ru_utime + after.ru_stime - before.ru_utime - before.ru_stime
+    return Timed([] if was_cut else output.splitlines(), seconds, was_cut)
 
 
 def run(command: list, text: str) -> Timed:
