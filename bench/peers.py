@@ -5,12 +5,10 @@ answers can be compared. A question that a peer has no call for makes the whole 
 """
 
 import shutil
-import subprocess
-import time
 
 from session import Question, Session, printed, printed_ideal, terms_of
 
-LIMIT = 600
+YES_OR_NO = ["member", "same", "isjump", "regular", "fpure", "compatible"]
 
 
 class Unknown(Exception):
@@ -28,32 +26,59 @@ class Peer:
     def script(self, session: Session) -> str:
         raise NotImplementedError
 
-    def run(self, script: str) -> tuple[str, float]:
-        """What the peer prints, and the seconds from its start to its end."""
-        begin = time.perf_counter()
-        done = subprocess.run(self.command, input=script, capture_output=True, text=True, timeout=LIMIT)
-        return done.stdout, time.perf_counter() - begin
+    def seconds_told(self, output: list[str]) -> float | None:
+        """The time that the script told, if it does."""
+        told = [line.removeprefix("seconds @ ") for line in output if line.startswith("seconds @ ")]
+        return float(told[0]) if told else None
 
-    def answers(self, output: str, session: Session) -> list[str]:
-        """The lines `k @ text` of the output in the texts of fjcalc. A text is a list of polynomials, or yes or no."""
-        lines = {}
-        for line in output.splitlines():
+    def answers(self, output: list[str], session: Session) -> list[str]:
+        """The lines `k @ text` of the output in the texts of fjcalc."""
+        texts: dict[int, list[str]] = {}
+        for line in output:
             number, mark, text = line.partition(" @ ")
             if mark and number.strip().isdigit():
-                lines[int(number)] = text.strip()
-        return [self.answer(question, lines.get(question.number, "?"), session) for question in session.questions]
+                texts.setdefault(int(number), []).append(text.strip())
+        return [
+            f"{question.number}: {self.answer(question, text, session)}"
+            for question in session.questions
+            for text in texts.get(question.number, ["?"])
+        ]
 
     def answer(self, question: Question, text: str, session: Session) -> str:
+        """One line of an answer, for a text of the peer: a list of polynomials, a truth value, a number or words."""
+        kind = question.words[0]
         if text == "?":
-            return f"{question.number}: nothing"
-        if text in ("true", "1") and question.words[0] in ("member", "same"):
-            return f"{question.number}: yes"
-        if text in ("false", "0") and question.words[0] in ("member", "same"):
-            return f"{question.number}: no"
-        if question.words[0] == "parts":
-            return f"{question.number}: part ({','.join('0' * len(session.variables))}) = {printed(terms_of(text, session, question.order), session)}"
-        members = [member for member in text.strip("{}").split(",") if member.strip()]
-        return f"{question.number}: {printed_ideal(members, session, question.order)}"
+            return "nothing"
+        if kind in YES_OR_NO:
+            return "yes" if text in ("true", "1") else "no"
+        if kind == "nu":
+            return "notin" if text == "infinity" else f"nu {text}"
+        if kind == "threshold":
+            return text if text.startswith("between") else f"threshold {text}"
+        if kind == "parts":
+            return f"part ({','.join('0' * len(session.variables))}) = {printed(terms_of(text, session, question.order), session)}"
+        at, mark, members = text.rpartition(" = ")
+        if kind == "jumps" and not mark:
+            return text
+        members = [member for member in members.strip("{}").split(",") if member.strip()]
+        return at + mark + printed_ideal(members, session, question.order)
+
+
+# Macaulay2's users look for jumping numbers and thresholds among the candidates, the fractions with so many digits.
+CANDIDATES = """
+candidates = (p, E) -> sort unique flatten flatten for b from 1 to E list for c from 0 to E - b list
+  for m from 1 to p^c*(p^b - 1) list m/(p^c*(p^b - 1));
+changes = (f, at, i, j, I, J) -> if I == J then {} else if j == i + 1 then {(at#j, J)} else (
+  k := (i + j)//2; K := testIdeal(at#k, f); changes(f, at, i, k, I, K) | changes(f, at, k, j, K, J));
+printJumps = (number, f, E) -> (at := {0/1} | candidates(char ring f, E); last := #at - 1;
+  found := changes(f, at, 0, last, ideal 1_(ring f), testIdeal(at#last, f));
+  jumps := select(found, c -> isFJumpingExponent(c#0, f));
+  scan(jumps, c -> print(number | " @ jump " | toString(c#0) | " = " | toString flatten entries gens gb c#1));
+  print(number | " @ " | if #jumps == #found then "complete" else "incomplete"));
+threshold = (f, J, E) -> (at := {0/1} | candidates(char ring f, E); i := 0; j := #at - 1;
+  while j - i > 1 do (k := (i + j)//2; if isSubset(testIdeal(at#k, f), J) then j = k else i = k);
+  if isFJumpingExponent(at#j, f) then toString(at#j) else "between " | toString(at#i) | " and " | toString(at#j));
+"""
 
 
 class Macaulay2(Peer):
@@ -69,28 +94,55 @@ class Macaulay2(Peer):
                 return f"(i{j} + i{k})"
             case ["product", j, k]:
                 return f"(i{j} * i{k})"
+            case ["meet", j, k]:
+                return f"intersect(i{j}, i{k})"
+            case ["colon", j, k]:
+                return f"(i{j} : i{k})"
             case ["power", e, j]:
                 return f"(ideal apply(flatten entries gens i{j}, g -> g^{session.prime ** int(e)}))"
             case ["root", e, j]:
                 return f"(frobeniusRoot({e}, i{j}))"
+            case ["test", f, t]:
+                return f"(testIdeal({fraction(t)}, p{f}))"
+            case ["split", j]:
+                return f"(frobeniusRoot(1, frobenius(1, i{j}) : i{j}))"
         raise Unknown(words[0])
 
-    def question(self, question: Question, session: Session) -> str:
+    def value(self, question: Question, session: Session) -> str:
+        """The answer to a question that isn't an ideal."""
         match question.words:
             case ["member", f, j]:
-                value = f"(p{f} % i{j}) == 0"
+                return f"(p{f} % i{j}) == 0"
             case ["same", j, k]:
-                value = f"i{j} == i{k}"
+                return f"i{j} == i{k}"
             case ["parts", "0", f]:
-                value = f"p{f}"
-            case words:
-                inside = f"S{question.order}"
-                value = f"flatten entries gens gb sub({self.ideal_of(words, session)}, {inside})"
-        return f'print("{question.number} @ " | toString({value}));'
+                return f"p{f}"
+            case ["isjump", f, t]:
+                return f"isFJumpingExponent({fraction(t)}, p{f})"
+            case ["regular", f, t]:
+                return f"isFRegular({fraction(t)}, p{f})"
+            case ["nu", e, f, j]:
+                return f"frobeniusNu({e}, p{f}, i{j})"
+            case ["fpure", j]:
+                return f"isFPure(i{j})"
+            case ["compatible", e, u, j]:
+                return f"isSubset(frobeniusRoot({e}, ideal(p{u}) * i{j}), i{j})"
+            case ["threshold", f, j, e] if j in session.ideals:
+                return f"threshold(p{f}, i{j}, {e})"
+            case ["threshold", f, at, _] if all(int(c) == 0 for c in session.points[at]):
+                return f"fpt p{f}"
+        inside = f"S{question.order}"
+        return f"flatten entries gens gb sub({self.ideal_of(question.words, session)}, {inside})"
+
+    def question(self, question: Question, session: Session) -> str:
+        if question.words[0] == "jumps":
+            _, f, e = question.words
+            return f'printJumps("{question.number}", p{f}, {e});'
+        return f'print("{question.number} @ " | toString({self.value(question, session)}));'
 
     def script(self, session: Session) -> str:
         names = ",".join(session.variables)
-        lines = ['needsPackage "TestIdeals";'] if any(q.words[0] == "root" for q in session.questions) else []
+        lines = ['needsPackage "TestIdeals";', 'needsPackage "FrobeniusThresholds";', CANDIDATES, "began = cpuTime();"]
         for order, word in self.orders.items():
             if order != "grevlex" and any(q.order == order for q in session.questions):
                 lines.append(f"S{order} = ZZ/{session.prime}[{names}, MonomialOrder => {word}];")
@@ -98,13 +150,23 @@ class Macaulay2(Peer):
         lines += [f"p{name} = {value} + 0_Sgrevlex;" for name, value in session.polynomials.items()]
         lines += [f"i{name} = ideal({', '.join(f'({g}) + 0_Sgrevlex' for g in gens)});" for name, gens in session.ideals.items()]
         lines += [self.question(question, session) for question in session.questions]
+        lines.append('print("seconds @ " | toString(cpuTime() - began));')
         return "\n".join(lines) + "\n"
+
+
+def fraction(ratio: str) -> str:
+    """A fraction as Macaulay2 reads it, whole numbers too."""
+    return ratio if "/" in ratio else f"{ratio}/1"
 
 
 class Singular(Peer):
     name = "Singular"
     command = ["Singular", "-q", "--no-tty", "--no-rc"]
     orders = {"grevlex": "dp", "grlex": "Dp", "lex": "lp"}
+
+    def basis(self, ideal: str, number: int) -> list[str]:
+        """The basis of an ideal of the ring that is set, with cofactors."""
+        return [f"matrix t{number}; ideal a{number} = liftstd({ideal}, t{number});", f"a{number} = interred(a{number});"]
 
     def ideal_of(self, words: list[str], session: Session) -> str:
         match words:
@@ -114,6 +176,10 @@ class Singular(Peer):
                 return f"i{j} + i{k}"
             case ["product", j, k]:
                 return f"i{j} * i{k}"
+            case ["meet", j, k]:
+                return f"intersect(i{j}, i{k})"
+            case ["colon", j, k]:
+                return f"quotient(i{j}, i{k})"
             case ["power", e, j]:
                 q = session.prime ** int(e)
                 return ", ".join(f"i{j}[{n + 1}]^{q}" for n in range(len(session.ideals[j])))
@@ -128,10 +194,11 @@ class Singular(Peer):
                 return [f'print("{question.number} @ " + string({inside}));']
             case ["parts", "0", f]:
                 return [f'print("{question.number} @ " + string(p{f}));']
-            case ["basis", j] if question.order == "grevlex":
+            case ["basis", j]:
                 n = question.number
-                lifted = f"matrix t{n}; ideal a{n} = liftstd(i{j}, t{n});"
-                return [lifted, f'print("{n} @ " + string(interred(a{n})));']
+                moved = [f"setring S{question.order};", f"ideal b{n} = imap(Sgrevlex, i{j});"] if question.order != "grevlex" else []
+                made = self.basis(f"b{n}" if moved else f"i{j}", n)
+                return moved + made + [f'print("{n} @ " + string(a{n}));', "setring Sgrevlex;"]
             case words:
                 made = f"ideal a{question.number} = {self.ideal_of(words, session)};"
                 at = f"S{question.order}"
@@ -152,4 +219,18 @@ class Singular(Peer):
         return "\n".join(lines) + "\nquit;\n"
 
 
-PEERS: list[Peer] = [Macaulay2(), Singular()]
+class SingularAlone(Singular):
+    """Singular on bases without cofactors."""
+
+    name = "std"
+
+    def basis(self, ideal: str, number: int) -> list[str]:
+        return [f"ideal a{number} = std({ideal});"]
+
+    def script(self, session: Session) -> str:
+        if any(question.words[0] != "basis" for question in session.questions):
+            raise Unknown("a question that isn't for a basis")
+        return super().script(session)
+
+
+PEERS: list[Peer] = [Macaulay2(), Singular(), SingularAlone()]

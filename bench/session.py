@@ -17,6 +17,7 @@ class Session:
     variables: list[str]
     polynomials: dict[str, str]
     ideals: dict[str, list[str]]
+    points: dict[str, list[str]]
     questions: list[Question]
 
 
@@ -33,7 +34,7 @@ def split_at_commas(text: str) -> list[str]:
 
 def read(text: str) -> Session:
     """The session, which has no fault."""
-    session = Session(0, [], {}, {}, [])
+    session = Session(0, [], {}, {}, {}, [])
     order = "grevlex"
     for line in text.splitlines():
         line = line.partition("#")[0].strip()
@@ -49,6 +50,9 @@ def read(text: str) -> Session:
         elif word == "ideal":
             name, _, value = rest.partition("=")
             session.ideals[name.strip()] = split_at_commas(value.strip()[1:-1])
+        elif word == "point":
+            name, _, value = rest.partition("=")
+            session.points[name.strip()] = split_at_commas(value.strip()[1:-1])
         elif word == "ask":
             session.questions.append(Question(len(session.questions) + 1, order, rest.split()))
     return session
