@@ -23,7 +23,11 @@ pub mod Expressed
 pub mod MadeRows
 pub mod Stops
 pub mod PendingPairs
+pub mod Combined
 pub mod NextMember
+pub mod Replacements
+pub mod FormedRows
+pub mod Marks
 pub mod Turning
 pub mod Starting
 pub mod Copies

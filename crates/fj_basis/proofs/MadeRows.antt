@@ -22,12 +22,11 @@ use Rattle.fj_theory.proofs.PolynomialRing.{product_comm, product_one, sum_empty
 use Rattle.fj_groebner.proofs.Rows.{IsPolynomial-list_combination, IsRow-one}
 use Rattle.fj_basis.specs.declared.members.Member as code
 use Rattle.fj_basis.specs.declared.run.Run as code_run
-use Rattle.fj_basis.specs.Basis.{IsMadeOf, IsResult, WithCofactors, unit_row, unit_rows}
-use Rattle.fj_basis.specs.Finished.{AreMembersOfRun, AreQuotients, IsHighReplacing, IsQuotients}
-use Rattle.fj_basis.specs.Members.{IsTraced, sugared_members}
+use Rattle.fj_basis.specs.Basis.{unit_row, unit_rows}
+use Rattle.fj_basis.specs.Finished.{AreDivisors, AreMembersOfRun, AreQuotients, IsHighReplacing, IsQuotients}
+use Rattle.fj_basis.specs.Members.{sugared_members}
 use Rattle.fj_basis.specs.State.{ArePending, IsEnded}
-use Rattle.fj_basis.proofs.ReplacingSteps.{AreDivisors, IsReplacing-AreDivisors}
-use Rattle.fj_basis.proofs.RowBounds.{traced-AreRows}
+use Rattle.fj_basis.proofs.ReplacingSteps.{IsReplacing-AreDivisors}
 
 -- A table of rows has a row for each polynomial, and an entry for each of the list.
 pub AreRows-long : (F : Field) (N : List Polynomial) (G : List Polynomial) (rows : List (List Polynomial)) → AreRows F N G rows → length rows ≡ length G
@@ -109,7 +108,7 @@ IsEnded-members {F} {key} {M} h e = subst (AreMembersOfRun F key) (sym e) (recor
   state = h.after.state;
   run = h.after.run;
   are = h.after.members;
-  traced = h.after.traced;
+  in_place = h.after.in_place;
 })
 
 -- A run that has ended, with a sugar above the limit in the second act.
@@ -136,7 +135,7 @@ module _ {K O : Type 0} {F : Field} (L : IsField F) {key : List ℕ → List ℕ
       (subst (λ G. IsReplacing F key G (record { replaced = sugared_members basis; rest = [] })) (ap sugared_members are ∙ sym ended.after.members) replacing) any)
 
   module _ (rows : List (List Polynomial)) (quotients : AreQuotients F key (sugared_members basis) M rows) where
-    ended-IsFinished : IsFinished F key M budget (sugared_members basis)
+    pub ended-IsFinished : IsFinished F key M budget (sugared_members basis)
     ended-IsFinished = record {
       turns = ended.turns;
       last = ended.after.state;
@@ -154,19 +153,6 @@ module _ {K O : Type 0} {F : Field} (L : IsField F) {key : List ℕ → List ℕ
 
     pub ended-up : AreRows F (polynomials_of (sugared_members basis)) M rows
     ended-up = AreQuotients-AreRows L R ended.after.given (sugared_members basis) ended-AreDivisors reduced M rows ended.after.given (Member-elements L ended.after.given) quotients
-
-    pub ended-IsReducedBasis : {fs : List Polynomial} → fs ≡ map (λ m. m.polynomial) basis → IsReducedBasis F key M fs
-    ended-IsReducedBasis e = subst (IsReducedBasis F key M) (polynomials-sugared basis ∙ sym e) reduced
-
-    module _ {b : WithCofactors} (members_are : b.members ≡ map (λ m. m.polynomial) basis) where
-      pub ended-IsResult : IsResult F key M budget b
-      ended-IsResult = record { basis = sugared_members basis; finished = ended-IsFinished; members = polynomials-sugared basis ∙ sym members_are }
-
-      pub ended-IsMadeOf : All (IsTraced F M) basis → b.down ≡ map (λ m. m.row.items) basis → b.up ≡ rows → IsMadeOf F M b
-      ended-IsMadeOf traced down up = record {
-        down = subst₂ (AreRows F M) (polynomials-sugared basis ∙ sym members_are) (sym down) (traced-AreRows L basis traced);
-        up = subst₂ (λ G rows. AreRows F G M rows) (polynomials-sugared basis ∙ sym members_are) (sym up) ended-up;
-      }
 
 -- A list is made of itself by the unit rows.
 module _ {F : Field} (L : IsField F) (N : List Polynomial) (A : ArePolynomials F N) where

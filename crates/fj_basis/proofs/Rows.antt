@@ -99,13 +99,6 @@ module _ {F : Field} (L : IsField F) where
       ap (λ zs. sum F x (product F f y) ∷ zs) (added-zero f n xs ys (omega (arith, l)) (omega (arith, e)) (ArePolynomials-tail A) z ∙ ap (λ m. added F f m xs ys) (add-one n))
       ∙ ap (λ m. added F f m (x ∷ xs) (y ∷ ys)) (sym (add-one (suc n)))
 
-  -- Zero times a row.
-  add_empty : (xs ys : List Polynomial) → ArePolynomials F xs → add_multiple F empty xs ys ≡ xs
-  unfolding add_multiple
-  add_empty [] ys A = refl
-  add_empty (x ∷ xs) [] A = refl
-  add_empty (x ∷ xs) (y ∷ ys) A = ap₂ ◌∷◌ (ap (sum F x) (empty_times F y) ∙ sum_empty L (ArePolynomials-head A)) (add_empty xs ys (ArePolynomials-tail A))
-
   pub ArePolynomials-add_multiple : {f : Polynomial} → IsPolynomial F f → (xs ys : List Polynomial) → ArePolynomials F xs → ArePolynomials F ys
       → ArePolynomials F (add_multiple F f xs ys)
   unfolding add_multiple
@@ -140,40 +133,6 @@ module _ {F : Field} (L : IsField F) where
   negation-positive f a p =
       ⊎_elim (λ z. let none = coefficient-negation L f a ∙ ap F.neg z ∙ neg_zero_rank L in absurd (omega (arith, none, p))) (λ q. q) (eq-zero-or-pos (coefficient f a))
 
-  negation-empty : negation F empty ≡ empty
+  pub negation-empty : negation F empty ≡ empty
   unfolding negation
   negation-empty = without _ _ support_empty
-
--- The sum of rows, one row more.
-add_multiples-more : (F : Field) (n : ℕ) (fs : List Polynomial) (rows : List (List Polynomial)) (first : List Polynomial) → n < length fs → length rows ≡ length fs
-    → add_multiples F (take (n + 1) fs) rows first ≡ add_multiple F (get_or fs n empty) (add_multiples F (take n fs) rows first) (get_or rows n [])
-unfolding add_multiples
-add_multiples-more F n [] rows first l e = absurd (omega (arith, l))
-add_multiples-more F n (f ∷ fs) [] first l e = absurd (omega (arith, e))
-add_multiples-more F zero (f ∷ fs) (row ∷ rows) first l e = refl
-add_multiples-more F (suc n) (f ∷ fs) (row ∷ rows) first l e =
-    ap (λ m. add_multiples F (take m (f ∷ fs)) (row ∷ rows) first) (add-one (suc n))
-    ∙ sym (ap (λ m. add_multiples F (take m fs) rows (add_multiple F f first row)) (add-one n))
-    ∙ add_multiples-more F n fs rows (add_multiple F f first row) (omega (arith, l)) (omega (arith, e))
-
-pub add_multiples-none : (F : Field) (rows : List (List Polynomial)) (first : List Polynomial) → add_multiples F [] rows first ≡ first
-unfolding add_multiples
-add_multiples-none F rows first = refl
-
-module _ {F : Field} (L : IsField F) (qs : List Polynomial) (rows : List (List Polynomial)) (first : List Polynomial) where
-  -- One row less its multiple.
-  pub subtracted-more : (n : ℕ) (now : List Polynomial) (q : Polynomial) (row : List Polynomial) → n < length qs → length rows ≡ length qs → q ≡ get_or qs n q → row ≡ get_or rows n []
-      → now ≡ add_multiples F (take n (map (negation F) qs)) rows first
-      → add_multiple F (negation F q) now row ≡ add_multiples F (take (n + 1) (map (negation F) qs)) rows first
-  subtracted-more n now q row l e at_q at_row is =
-      let long = length-map qs (negation F) in
-      let factor : negation F q ≡ get_or (map (negation F) qs) n empty = ap (negation F) at_q ∙ sym (get_or-map (negation F) qs n q empty l) in
-      ap₂ (λ f xs. add_multiple F f xs row) factor is ∙ ap (add_multiple F (get_or (map (negation F) qs) n empty) (add_multiples F (take n (map (negation F) qs)) rows first)) at_row
-      ∙ sym (add_multiples-more F n (map (negation F) qs) rows first (omega (arith, l, long)) (omega (arith, e, long)))
-
-  pub subtracted-zero : (n : ℕ) (now : List Polynomial) (q : Polynomial) → n < length qs → length rows ≡ length qs → q ≡ get_or qs n q → q ≡ empty → ArePolynomials F now
-      → now ≡ add_multiples F (take n (map (negation F) qs)) rows first
-      → now ≡ add_multiples F (take (n + 1) (map (negation F) qs)) rows first
-  subtracted-zero n now q l e at_q z A is =
-      sym (add_empty L now (get_or rows n []) A) ∙ ap (λ f. add_multiple F f now (get_or rows n [])) (sym (ap (negation F) z ∙ negation-empty L))
-      ∙ subtracted-more n now q (get_or rows n []) l e at_q refl is

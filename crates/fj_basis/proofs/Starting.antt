@@ -14,34 +14,35 @@ use Rattle.fj_algebra.proofs.Pairs.{contains_nil}
 use Rattle.fj_coeff.specs.Field.{Field, IsField}
 use Rattle.fj_theory.specs.Exponents.{origin}
 use Rattle.fj_theory.specs.MonomialOrder.{IsMonomialOrder}
-use Rattle.fj_theory.specs.Polynomial.{Polynomial, term}
+use Rattle.fj_theory.specs.Polynomial.{IsPolynomial, Polynomial, product, term}
 use Rattle.fj_theory.specs.Ideal.{ArePolynomials}
 use Rattle.fj_theory.specs.Lead.{lead_coefficient, made_monic}
-use Rattle.fj_groebner.specs.Rows.{IsRow}
 use Rattle.fj_groebner.specs.Division.{DegreeAtMost, Sugared, degree_limit}
 use Rattle.fj_groebner.specs.Run as definition
 use Rattle.fj_groebner.specs.Run.{append_member, first_members, given, monic_member, pairs_with, run_start}
-use Rattle.fj_theory.proofs.Exponents.{IsExponents-origin, total_origin}
+use Rattle.fj_theory.proofs.Exponents.{IsExponents-origin}
 use Rattle.fj_theory.proofs.Field.{zero_below}
 use Rattle.fj_theory.proofs.Lead.{lead_coefficient-below, lead_coefficient-nonzero}
 use Rattle.fj_theory.proofs.Polynomial.{IsPolynomial-term}
-use Rattle.fj_groebner.proofs.Rows.{IsRow-one}
 use Rattle.fj_groebner.proofs.Run.{of_all_pairs}
-use Rattle.fj_groebner.proofs.Sugar.{DegreeAtMost-made_monic, given-DegreeAtMost}
 use Rattle.fj_basis.specs.declared.members.Member.{Member}
 use Rattle.fj_basis.specs.declared.run.Run.{Run}
-use Rattle.fj_basis.specs.Members.{IsTraced, sugared, sugared_members}
+use Rattle.fj_basis.specs.declared.history.Making.{Making}
+use Rattle.fj_basis.specs.declared.history.Source.TheVariants.{Given}
+use Rattle.fj_basis.specs.History.{AreMade, IsHistoryOf, IsMaking, IsSourceOf}
+use Rattle.fj_basis.specs.Members.{AreInPlace, sugared, sugared_members}
+use Rattle.fj_basis.proofs.Combined.{AreMade-none, HasRecordedOver, IsHistoryOf-over, in_place-none, in_place-push}
 use Rattle.fj_basis.specs.State.{ArePending, HasPairsWith, IsAfter}
 use Rattle.fj_basis.proofs.Gathered.{gathered_all}
-use Rattle.fj_basis.proofs.NextMember.{made_monic-nonzero}
+use Rattle.fj_basis.proofs.NextMember.{IsPolynomial-constant, constant-degree, made_monic-nonzero}
 use Rattle.fj_basis.proofs.PendingPairs.{ArePending-append}
-use Rattle.fj_basis.proofs.RowBounds.{DegreeAtMost-empty, DegreeAtMost-term}
 
--- The start of the run on the first n polynomials of L, with cofactors over all of L.
+-- The start of the run on the first n polynomials of L.
 pub record IsStarted {K R : Type 0} (F : Field) (key : List ℕ → List ℕ) (L : List Polynomial) (n : ℕ) (s : Run K R) : Type 0 where
   pub members : (run_start F key (take n L)).members ≡ sugared_members s.members.items
   pub pending : ArePending key (run_start F key (take n L)) s.pending.keys
-  pub traced : All (IsTraced F L) s.members.items
+  pub in_place : AreInPlace s.members.items
+  pub history : IsHistoryOf F L (sugared_members s.members.items) s.history
   pub nonzero : All (λ m. m.polynomial ≢ empty) s.members.items
 
 range-more : (n : ℕ) → range_with_len 0 (n + 1) ≡ range_with_len 0 n ++ (n ∷ [])
@@ -112,11 +113,12 @@ one-more L n l = ap (λ m. take m L) (add-one n) ∙ take-suc L n empty l
 
 module _ {K R : Type 0} {F : Field} {key : List ℕ → List ℕ} (L : List Polynomial) where
   -- Nothing is read.
-  pub started-none : (s : Run K R) → s.members.items ≡ [] → s.pending.keys ≡ [] → IsStarted F key L 0 s
-  started-none s members keys = record {
+  pub started-none : (s : Run K R) → s.members.items ≡ [] → s.pending.keys ≡ [] → s.history.makings.items ≡ [] → IsStarted F key L 0 s
+  started-none s members keys makings = record {
     members = none-members F key ∙ ap sugared_members (sym members);
     pending = subst (ArePending key (run_start F key [])) (sym keys) (none-ArePending F key);
-    traced = subst (All (IsTraced F L)) (sym members) (All-nil (IsTraced F L));
+    in_place = subst AreInPlace (sym members) in_place-none;
+    history = record { made = λ kept. subst₂ (AreMade F L) (ap sugared_members (sym members)) (sym makings) AreMade-none };
     nonzero = subst (All (λ (m : Member K R). m.polynomial ≢ empty)) (sym members) (All-nil (λ m. m.polynomial ≢ empty));
   }
 
@@ -127,16 +129,18 @@ module _ {K R : Type 0} {F : Field} {key : List ℕ → List ℕ} (L : List Poly
       record {
         members = sym (ap (λ t. t.members) same) ∙ before.members;
         pending = subst (λ t. ArePending key t s.pending.keys) same before.pending;
-        traced = before.traced;
+        in_place = before.in_place;
+        history = before.history;
         nonzero = before.nonzero;
       }
 
   -- One that isn't.
-  pub started-more : (n : ℕ) (s new : Run K R) (m : Member K R) → n < length L → get_or L n empty ≢ empty → sugared m ≡ monic_member F key (given (get_or L n empty)) → IsTraced F L m → m.polynomial ≢ empty
+  pub started-more : (n : ℕ) (s new : Run K R) (m : Member K R) → n < length L → get_or L n empty ≢ empty → sugared m ≡ monic_member F key (given (get_or L n empty)) → m.place ≡ length s.members.items → m.sugar ≤ degree_limit
+      → HasRecordedOver F L (sugared_members s.members.items) (sugared m) s.history new.history → m.polynomial ≢ empty
       → new.members.items ≡ s.members.items ++ (m ∷ []) → HasPairsWith key (sugared_members new.members.items) (length s.members.items) s.pending.keys new.pending.keys
       → IsStarted F key L n s → IsStarted F key L (n + 1) new
   unfolding append_member
-  started-more n s new m l some is traced nonzero whole pairs before =
+  started-more n s new m l some is place low recorded nonzero whole pairs before =
       let old = run_start F key (take n L) in
       let g = monic_member F key (given (get_or L n empty)) in
       let same : run_start F key (take (n + 1) L) ≡ append_member old g = ap (run_start F key) (one-more L n l) ∙ start-more F key (take n L) (get_or L n empty) some in
@@ -147,7 +151,9 @@ module _ {K R : Type 0} {F : Field} {key : List ℕ → List ℕ} (L : List Poly
         members = ap (λ t. t.members) same ∙ sym are;
         pending = subst (λ t. ArePending key t new.pending.keys) (sym same)
             (ArePending-append key old g s.pending.keys new.pending.keys (start-places F key (take n L)) before.pending (subst₂ (λ G k. HasPairsWith key G k s.pending.keys new.pending.keys) are count pairs));
-        traced = gathered_all (IsTraced F L) s.members.items new.members.items m before.traced traced whole;
+        in_place = subst AreInPlace (sym whole) (in_place-push s.members.items m before.in_place place low);
+        history = subst (λ G. IsHistoryOf F L G new.history) (sym (ap sugared_members whole ∙ map-append sugared s.members.items (m ∷ [])))
+            (IsHistoryOf-over (sugared_members s.members.items) (sugared m) s.history new.history recorded before.history);
         nonzero = gathered_all (λ (g : Member K R). g.polynomial ≢ empty) s.members.items new.members.items m before.nonzero nonzero whole;
       }
 
@@ -161,7 +167,8 @@ module _ {K R : Type 0} {F : Field} {key : List ℕ → List ℕ} (L : List Poly
         run = record { states = []; steps = refl; made = refl };
         members = ap (λ N. (run_start F key N).members) (sym whole) ∙ before.members;
         pending = subst (λ N. ArePending key (run_start F key N) s.pending.keys) whole before.pending;
-        traced = before.traced;
+        in_place = before.in_place;
+        history = before.history;
       }
 
   -- A first member isn't zero.
@@ -170,24 +177,18 @@ module _ {K R : Type 0} {F : Field} {key : List ℕ → List ℕ} (L : List Poly
   unfolding given monic_member
   first-nonzero laws O A j l m some is e = made_monic-nonzero laws O (A.each j empty l) some (sym (ap (λ g. g.polynomial) is) ∙ e)
 
-  -- A first member is traced.
-  pub first-IsTraced : (laws : IsField F) → IsMonomialOrder key → ArePolynomials F L → (j : ℕ) → j < length L → (m : Member K R) → get_or L j empty ≢ empty
+  -- A first member is made so.
+  pub first-IsMaking : (laws : IsField F) → IsMonomialOrder key → ArePolynomials F L → (j : ℕ) → j < length L → (G : List Sugared) (m : Member K R) → get_or L j empty ≢ empty
       → sugared m ≡ monic_member F key (given (get_or L j empty)) → m.sugar ≤ degree_limit
-      → m.row.items ≡ set (replicate (length L) empty) j (term (F.inverse (lead_coefficient key (get_or L j empty))) origin) → IsTraced F L m
+      → (making : Making K R) → making.constant ≡ term (F.inverse (lead_coefficient key (get_or L j empty))) origin → making.source ≡ Given j → IsMaking F L G (sugared m) making
   unfolding given monic_member made_monic
-  first-IsTraced laws O A j l m some is low rows =
+  first-IsMaking laws O A j l G m some is low making constant source =
       let f = get_or L j empty in
-      let P = A.each j empty l in
-      let c = F.inverse (lead_coefficient key f) in
-      let small = laws.inverse_below _ (lead_coefficient-nonzero O P some) (lead_coefficient-below O P (zero_below laws)) in
-      let C = IsPolynomial-term c small IsExponents-origin in
-      let polynomial = ap (λ g. g.polynomial) is in
-      let sugar = ap (λ g. g.sugar) is in
       record {
-        row = subst₂ (IsRow F L) (sym polynomial) (sym rows) (IsRow-one laws C L j A l);
-        within = subst (All (DegreeAtMost m.sugar)) (sym rows)
-            (All-set (DegreeAtMost m.sugar) (replicate (length L) empty) j (term c origin) (DegreeAtMost-term m.sugar c origin (omega (arith, total_origin)))
-            (All-replicate (DegreeAtMost m.sugar) (length L) empty (DegreeAtMost-empty m.sugar)));
-        bounded = subst₂ DegreeAtMost (sym sugar) (sym polynomial) (DegreeAtMost-made_monic laws O P (given f).sugar some (given-DegreeAtMost laws P));
+        made_of = f;
+        source = subst (IsSourceOf F L G m.sugar f) (sym source) (l, refl);
+        constant = subst (IsPolynomial F) (sym constant) (IsPolynomial-constant laws O (A.each j empty l) some);
+        degree = subst (DegreeAtMost 0) (sym constant) (constant-degree (F.inverse (lead_coefficient key f)));
+        is = ap (λ g. g.polynomial) is ∙ ap (λ c. product F c f) (sym constant);
         low = low;
       }

@@ -2,9 +2,12 @@ pub mod DivisionCode
 pub mod Left
 pub mod Quotients
 pub mod Members
+pub mod History
+pub mod Forming
 pub mod Place
 pub mod PlaceLaws
 pub mod State
 pub mod Outcome
 pub mod Finished
 pub mod Basis
+pub mod Calculation

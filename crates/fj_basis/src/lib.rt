@@ -8,14 +8,16 @@ mod cofactors;
 mod division;
 mod divisor;
 mod finishing;
+mod forming;
 mod handed;
+mod history;
 mod members;
 mod pairs;
 mod run;
 mod stop;
 pub mod types;
 
-pub use calculation::basis;
+pub use calculation::{basis, reduced_basis};
 pub use certificate::{kept, plain_list};
 pub use division::divide;
 pub use handed::look_over;

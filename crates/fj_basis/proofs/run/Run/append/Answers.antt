@@ -8,7 +8,7 @@ use Rattle.fj_basis.proofs.PendingSets.{insert-pair, pairs-none}
 use Rattle.fj_basis.proofs.run.Run.append.Goals as goal
 
 pub loop-i-init : goal.loop-i-init
-loop-i-init g c = record { members = refl; pending = pairs-none g.O.Order.key _ _ c.args.self.now.pending.keys }
+loop-i-init g c = record { members = refl; history = refl; pending = pairs-none g.O.Order.key _ _ c.args.self.now.pending.keys }
 
 pub loop-i-preserved : goal.loop-i-preserved
 loop-i-preserved g c =
@@ -19,6 +19,7 @@ loop-i-preserved g c =
     let is_j = c.new.ensures.second ∙ c.len-j.ensures ∙ ok in
     record {
       members = c.loop-i.invariant.members;
+      history = c.loop-i.invariant.history;
       pending = subst (HasPairsUpTo g.O.Order.key (sugared_members (items ++ c.args.member ∷ [])) (length items) (c.loop-i.i + 1) c.args.self.now.pending.keys) (sym c.in_ok-insert.ensures.keys)
           (insert-pair g.O.Order.key (sugared_members (items ++ c.args.member ∷ [])) (length items) c.loop-i.i c.args.self.now.pending.keys c.loop-i.self.pending.keys c.new.result l c.new.ensures.first is_j
           (pair_of-appended g.O.Order.key items c.args.member c.index.result.now c.loop-i.i c.new.result l is c.new.ensures.first is_j
