@@ -170,12 +170,18 @@ member_at-IsPolynomial {F} [] A k = IsPolynomial-empty F
 member_at-IsPolynomial (g ∷ G) A zero = ArePolynomials-head A
 member_at-IsPolynomial (g ∷ G) A (suc k) = member_at-IsPolynomial G (ArePolynomials-tail A) k
 
+-- What is made at the place k, once g is.
+abbrev MadeAt : {K O : Type 0} → Field → List Polynomial → List Sugared → Sugared → ℕ → Making K O → Type 0
+MadeAt F L G g k m = IsMaking F L (take k (G ++ (g ∷ []))) (member_at (G ++ (g ∷ [])) k) m
+
+-- How g is made from L comes to be recorded, where a history is kept.
+pub record HasRecordedOver {K O : Type 0} (F : Field) (L : List Polynomial) (G : List Sugared) (g : Sugared) (before after : History K O) : Type 0 where
+  pub kept : after.is_kept ≡ before.is_kept
+  pub making : before.is_kept ≡ true → (x : Making K O) × (after.makings.items ≡ before.makings.items ++ (x ∷ [])) × IsMaking F L G g x
+
 module _ {K O : Type 0} {F : Field} {L : List Polynomial} where
   pub AreMade-none : AreMade {K = K} {O = O} F L [] []
   AreMade-none = record { long = refl; each = λ k d l. absurd (omega (arith, l)) }
-
-  abbrev MadeAt : List Sugared → Sugared → ℕ → Making K O → Type 0
-  MadeAt G g k m = IsMaking F L (take k (G ++ (g ∷ []))) (member_at (G ++ (g ∷ [])) k) m
 
   pub AreMade-push : (G : List Sugared) (g : Sugared) (ms : List (Making K O)) (x : Making K O) → AreMade F L G ms → IsMaking F L G g x → AreMade F L (G ++ (g ∷ [])) (ms ++ (x ∷ []))
   AreMade-push G g ms x made one = record {
@@ -183,30 +189,25 @@ module _ {K O : Type 0} {F : Field} {L : List Polynomial} where
     each = λ k d l. by k d (cases_order k (length ms)) (omega (arith, l, length-append ms (x ∷ [])));
   }
     where
-      earlier : (k : ℕ) (d : Making K O) → k < length ms → MadeAt G g k (get_or (ms ++ (x ∷ [])) k d)
+      earlier : (k : ℕ) (d : Making K O) → k < length ms → MadeAt F L G g k (get_or (ms ++ (x ∷ [])) k d)
       earlier k d l =
           let long = made.long in
           let m : k < length G = omega (arith, l, long) in
           subst (λ y. IsMaking F L (take k (G ++ (g ∷ []))) (member_at (G ++ (g ∷ [])) k) y) (sym (get_or_append_left ms (x ∷ []) d k l))
           (subst₂ (λ T h. IsMaking F L T h (get_or ms k d)) (sym (take-append-le k G (g ∷ []) (omega (arith, m)))) (sym (member_at-left G (g ∷ []) k m)) (made.each k d l))
 
-      here : (k : ℕ) (d : Making K O) → k ≡ length ms → MadeAt G g k (get_or (ms ++ (x ∷ [])) k d)
+      here : (k : ℕ) (d : Making K O) → k ≡ length ms → MadeAt F L G g k (get_or (ms ++ (x ∷ [])) k d)
       here k d e =
           let whole : take k (G ++ (g ∷ [])) ≡ G = take-append-le k G (g ∷ []) (omega (arith, e, made.long)) ∙ take_all k G (omega (arith, e, made.long)) in
           subst (λ y. IsMaking F L (take k (G ++ (g ∷ []))) (member_at (G ++ (g ∷ [])) k) y) (sym (get_or_push ms x d k (sym e)))
           (subst₂ (λ T h. IsMaking F L T h x) (sym whole) (sym (member_at-push G g k (sym made.long ∙ sym e))) one)
 
-      by : (k : ℕ) (d : Making K O) → (k ≡ length ms) ⊎ ((k < length ms) ⊎ (length ms < k)) → k < length ms + 1 → MadeAt G g k (get_or (ms ++ (x ∷ [])) k d)
+      by : (k : ℕ) (d : Making K O) → (k ≡ length ms) ⊎ ((k < length ms) ⊎ (length ms < k)) → k < length ms + 1 → MadeAt F L G g k (get_or (ms ++ (x ∷ [])) k d)
       by k d (inl e) m = here k d e
       by k d (inr (inl l)) m = earlier k d l
       by k d (inr (inr h)) m = absurd (omega (arith, h, m))
 
-  -- How g is made from L comes to be recorded, where a history is kept.
-  pub record HasRecordedOver (G : List Sugared) (g : Sugared) (before after : History K O) : Type 0 where
-    pub kept : after.is_kept ≡ before.is_kept
-    pub making : before.is_kept ≡ true → (x : Making K O) × (after.makings.items ≡ before.makings.items ++ (x ∷ [])) × IsMaking F L G g x
-
-  pub IsHistoryOf-over : (G : List Sugared) (g : Sugared) (before after : History K O) → HasRecordedOver G g before after → IsHistoryOf F L G before → IsHistoryOf F L (G ++ (g ∷ [])) after
+  pub IsHistoryOf-over : (G : List Sugared) (g : Sugared) (before after : History K O) → HasRecordedOver F L G g before after → IsHistoryOf F L G before → IsHistoryOf F L (G ++ (g ∷ [])) after
   IsHistoryOf-over G g before after h old = record {
     made = λ kept.
         let was : before.is_kept ≡ true = sym h.kept ∙ kept in

@@ -29,7 +29,7 @@ use Rattle.fj_basis.proofs.RowBounds.{DegreeAtMost-add_multiple, DegreeAtMost-em
 use Rattle.fj_basis.proofs.Rows.{product-low}
 
 -- The row of a sum of multiples, a summand at a time.
-module _ {K O : Type 0} {F : Field} (laws : IsField F) {L : List Polynomial} (A : ArePolynomials F L) (G : List Sugared) (bound : ℕ) where
+module _ (K O : Type 0) {F : Field} (laws : IsField F) {L : List Polynomial} (A : ArePolynomials F L) (G : List Sugared) (bound : ℕ) where
   abbrev pub partial : List (Summand K O) → Sugared
   partial ss = record { polynomial = combined F (polynomial_at G) empty ss; sugar = bound }
 
@@ -75,16 +75,16 @@ module _ {K O : Type 0} {F : Field} (laws : IsField F) {L : List Polynomial} (A 
           }
 
 -- What a source combines comes before it.
-uses : {K O : Type 0} {F : Field} {L : List Polynomial} (G : List Sugared) (bound n : ℕ) (f : Polynomial) (source : Source K O) → length G ≤ n → IsSourceOf F L G bound f source → UsesBelow n source
-uses G bound n f (Given j) l h = tt
-uses {F = F} G bound n f (Combined v) l h = All-weaker (IsSummand F G bound) (λ s. s.place < n) (λ s own. let place = own.place in omega (arith, place, l)) v.items h.0
+uses : {K O : Type 0} (F : Field) (L : List Polynomial) (G : List Sugared) (bound n : ℕ) (f : Polynomial) (source : Source K O) → length G ≤ n → IsSourceOf F L G bound f source → UsesBelow n source
+uses F L G bound n f (Given j) l h = tt
+uses F L G bound n f (Combined v) l h = All-weaker (IsSummand F G bound) (λ s. s.place < n) (λ s own. let place = own.place in omega (arith, place, l)) v.items h.0
 
 module _ {K O : Type 0} {F : Field} {L : List Polynomial} (G : List Sugared) (makings : List (Making K O)) (made : AreMade F L G makings) where
   uses-below : (k : ℕ) (d : Making K O) → k < length makings → UsesBelow k (get_or makings k d).source
   uses-below k d l =
       let own = made.each k d l in
       let long = made.long in
-      uses (take k G) (member_at G k).sugar k own.made_of (get_or makings k d).source (omega (arith, length-take-le k G (omega (arith, l, long)))) own.source
+      uses F L (take k G) (member_at G k).sugar k own.made_of (get_or makings k d).source (omega (arith, length-take-le k G (omega (arith, l, long)))) own.source
 
   pub made-AreInOrder : AreInOrder makings
   made-AreInOrder = record { each = uses-below }
@@ -99,7 +99,7 @@ module _ {K O : Type 0} {F : Field} {L : List Polynomial} (G : List Sugared) (ma
         → AllSummands (λ s. (s.place < length rows) × ((d : List Polynomial) → IsRowWithin F L (member_at (take k G) s.place) (get_or rows s.place d))) source
     unfolding member_at
     have (Given j) below own = tt
-    have (Combined v) below own i s n =
+    have (Combined v) below own = λ i s n.
         let place = below i s n in
         let earlier = formed.each in
         let t = get_or v.items i s in (
@@ -128,7 +128,7 @@ module _ {K O : Type 0} {F : Field} {L : List Polynomial} (G : List Sugared) (ma
       by k d marked (inr (inr h)) l = absurd (omega (arith, h, l))
 
 -- The row of a constant times a source.
-module _ {K O : Type 0} {F : Field} (laws : IsField F) {L : List Polynomial} (A : ArePolynomials F L) where
+module _ {F : Field} (laws : IsField F) {L : List Polynomial} (A : ArePolynomials F L) where
   pub source-given : (bound j : ℕ) (f : Polynomial) (row : List Polynomial) (c : ℕ) → c ≡ 1 → j < length L → f ≡ get_or L j empty → row ≡ set (replicate (length L) empty) j (term c origin)
       → IsRowWithin F L (record { polynomial = f; sugar = bound }) row
   source-given bound j f row c one l is e =
@@ -147,7 +147,7 @@ module _ {K O : Type 0} {F : Field} (laws : IsField F) {L : List Polynomial} (A 
   constant-low bound c row C degree low P within k d l =
       product-low laws C (P.each k d l) bound (λ a p. let one = degree.within a p in omega (arith, one, low)) (within k d l)
 
-  pub times-constant : (G : List Sugared) (g : Sugared) (m : Making K O) (h : IsMaking F L G g m) (row new : List Polynomial) → IsRowWithin F L (record { polynomial = h.made_of; sugar = g.sugar }) row
+  pub times-constant : {K O : Type 0} (G : List Sugared) (g : Sugared) (m : Making K O) (h : IsMaking F L G g m) (row new : List Polynomial) → IsRowWithin F L (record { polynomial = h.made_of; sugar = g.sugar }) row
       → IsPolynomial F h.made_of → new ≡ map (product F m.constant) row → IsRowWithin F L g new
   times-constant G g m h row new w P e = record {
     is = subst₂ (IsRow F L) (sym h.is) (sym e) (IsRow-scaled laws h.constant A P w.is);

@@ -166,7 +166,7 @@ module _ {K R : Type 0} {F : Field} (L : IsField F) {key : List ℕ → List ℕ
         (λ a p. let low = factor-low 1 i l divides_i first-low a p in omega (arith, low, rises)) in
         let second = IsSummand-at {G = G} pair.second j (factor (F.neg 1) j) pair.second_place pair.second_factor (places members j m)
         (factor-IsPolynomial (F.neg 1) j (L.neg_below 1 (one_below L)) m) (λ a p. let low = factor-low (F.neg 1) j m divides_j second-low a p in omega (arith, low, rises)) in
-        with.each G last.sugar (subst (All (IsSummand F G last.sugar)) (sym pair.are) (All-cons (IsSummand F G last.sugar) pair.first _ first (All-cons (IsSummand F G last.sugar) pair.second [] second (All-nil (IsSummand F G last.sugar)))))
+        with.each G last.sugar (subst (All (IsSummand F G last.sugar)) (sym pair.are) (All-cons (IsSummand F G last.sugar) pair.first (pair.second ∷ []) first (All-cons (IsSummand F G last.sugar) pair.second [] second (All-nil (IsSummand F G last.sugar)))))
         (λ t k n place is.
         let long = IsDivision-length O L G good.polynomials good.nonzero (good.s_is i j) D.division in
         IsSummand-at {G = G} t k (negation F (get_or last.quotients k empty)) (place ∙ omega arith) is (omega (arith, n, long)) (IsPolynomial-negation L (Q.each k empty n))

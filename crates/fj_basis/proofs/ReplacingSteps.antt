@@ -1,6 +1,6 @@
 -- The second act of finishing, as the code goes through it: members are replaced in turn.
-use Rattle.std.proofs.Common.{◌≡◌, ℕ, ◌<◌, ◌≤◌, List, [], ◌∷◌, ◌++◌, length, map, All, Contains, refl, sym, ap, ◌∙◌, subst, subst₂, arith}
-use Rattle.std.proofs.lemmas.List.{map-append}
+use Rattle.std.proofs.Common.{◌≡◌, ℕ, ◌+◌, true, length-append, append_assoc, ◌<◌, ◌≤◌, List, [], ◌∷◌, ◌++◌, length, map, All, Contains, refl, sym, ap, ◌∙◌, subst, subst₂, arith}
+use Rattle.std.proofs.lemmas.List.{append-nil, map-append}
 use Rattle.std.proofs.lemmas.List.Elements.{All-head, All-tail, All-contains}
 use Rattle.fj_algebra.proofs.Lists.{All-map_back}
 use Rattle.fj_coeff.specs.Field.{Field, IsField}
@@ -14,6 +14,9 @@ use Rattle.fj_groebner.proofs.Replacing.{IsReplacing-AreWithinSugars, IsReplacin
 use Rattle.fj_basis.specs.declared.members.Member.{Member}
 use Rattle.fj_basis.specs.Finished.{AreDivisors, AreMembersOfRun, IsHighReplacing, IsReplacementOf}
 use Rattle.fj_basis.specs.Members.{sugared, sugared_members}
+use Rattle.fj_basis.specs.declared.history.History.{History}
+use Rattle.fj_basis.specs.History.{HasRecordedMember, IsHistoryOf}
+use Rattle.fj_basis.proofs.Combined.{IsHistoryOf-push}
 use Rattle.fj_basis.proofs.Leading.{state-good}
 use Rattle.fj_basis.proofs.Subtracted.{member_at-sugared}
 use Rattle.fj_theory.proofs.Steps.{StepsTo-more}
@@ -119,3 +122,33 @@ module _ {K O : Type 0} {F : Field} (L : IsField F) {key : List ℕ → List ℕ
         };
         among = All-tail (Contains members) m rest h.among;
       }
+
+-- The members that are replaced so far are recorded after those of the run.
+pub record AreRecorded {K O : Type 0} (F : Field) (members before : List (Member K O)) (from : ℕ) (start now : History K O) : Type 0 where
+  pub from_is : from ≡ length members
+  pub kept : now.is_kept ≡ start.is_kept
+  pub long : start.is_kept ≡ true → length now.makings.items ≡ from + length before
+  pub history : (N : List Polynomial) → IsHistoryOf F N (sugared_members members) start → IsHistoryOf F N (sugared_members members ++ sugared_members before) now
+
+module _ {K O : Type 0} {F : Field} (members : List (Member K O)) (start : History K O) where
+  pub AreRecorded-start : (from : ℕ) → from ≡ length members → (start.is_kept ≡ true → length start.makings.items ≡ length members) → AreRecorded F members [] from start start
+  AreRecorded-start from e long = record {
+    from_is = e;
+    kept = refl;
+    long = λ was. long was ∙ omega (arith, e);
+    history = λ N own. subst (λ G. IsHistoryOf F N G start) (sym (append-nil (sugared_members members))) own;
+  }
+
+  pub AreRecorded-more : (before : List (Member K O)) (from : ℕ) (now next : History K O) (m : Member K O) (new : List (Member K O)) → HasRecordedMember F (sugared_members members ++ sugared_members before) (sugared m) now next
+      → new ≡ before ++ (m ∷ []) → AreRecorded F members before from start now → AreRecorded F members new from start next
+  AreRecorded-more before from now next m new one e h = subst (λ b. AreRecorded F members b from start next) (sym e) (record {
+    from_is = h.from_is;
+    kept = one.kept ∙ h.kept;
+    long = λ was.
+        let making = one.making (h.kept ∙ was) in
+        let long = h.long was in
+        ap length making.1 ∙ omega (arith, long, length-append now.makings.items (making.0 ∷ []), length-append before (m ∷ []));
+    history = λ N own.
+        subst (λ G. IsHistoryOf F N G next) (append_assoc (sugared_members members) (sugared_members before) (sugared m ∷ []) ∙ ap (λ G. sugared_members members ++ G) (sym (map-append sugared before (m ∷ []))))
+        (IsHistoryOf-push (sugared_members members ++ sugared_members before) (sugared m) now next one (h.history N own));
+  })
