@@ -121,8 +121,10 @@ module _ {K O : Type 0} {F : Field} (L : IsField F) (first : List (Summand K O))
   }
     where
       front : ArePolynomials F qs → ArePolynomials F (take n qs)
-      front Q = record { each = λ k d m. let long = length-take-le n qs (omega (arith, l)) in
-          subst (IsPolynomial F) (sym (get_or-take n qs k d (omega (arith, long, m)))) (Q.each k d (omega (arith, long, m, l))) }
+      front Q = record {
+        each = λ k d m. let long = length-take-le n qs (omega (arith, l)) in
+            subst (IsPolynomial F) (sym (get_or-take n qs k d (omega (arith, long, m)))) (Q.each k d (omega (arith, long, m, l)));
+      }
 
   -- One that isn't.
   pub negatives-more : (n : ℕ) (all new : List (Summand K O)) (s : Summand K O) → n < length qs → s.place ≡ from + n → s.factor ≡ negation F (get_or qs n empty) → new ≡ all ++ (s ∷ [])

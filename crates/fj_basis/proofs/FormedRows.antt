@@ -1,8 +1,8 @@
 -- Rows of cofactors of polynomials, from the rows of what they are made of.
-use Rattle.std.proofs.Common.{◌≡◌, ◌⊎◌, inl, inr, ℕ, ◌+◌, ◌^◌, ◌<◌, ◌≤◌, Bool, true, false, List, [], ◌∷◌, ◌++◌, length, length-append, map, take, replicate, set, get_or, All, refl, sym, ap, ap₂, ◌∙◌, subst, subst₂, arith, add-one}
+use Rattle.std.proofs.Common.{◌≡◌, ◌⊎◌, inl, inr, ℕ, ◌+◌, ◌^◌, ◌<◌, ◌≤◌, Bool, true, false, List, [], ◌∷◌, ◌++◌, length, length-append, map, take, drop, length-drop, Vec, Global, replicate, set, get_or, All, refl, sym, ap, ap₂, ◌∙◌, subst, subst₂, arith, add-one}
 use Rattle.std.specs.FinMap.{empty}
 use Rattle.std.proofs.Math.Seq.{take-suc}
-use Rattle.std.proofs.lemmas.List.{get_or-take, get_or_append_left, get_or_push, length-take-le, take_all}
+use Rattle.std.proofs.lemmas.List.{get_or-drop, get_or-take, get_or_append_left, get_or_push, length-take-le, take_all}
 use Rattle.std.proofs.lemmas.Bool.{cases_order}
 use Rattle.std.proofs.lemmas.List.Elements.{All-map, All-replicate, All-set, All-weaker}
 use Rattle.fj_coeff.specs.Field.{Field, IsField}
@@ -14,7 +14,7 @@ use Rattle.fj_theory.proofs.IdealBridge.{IsPolynomial-one}
 use Rattle.fj_theory.proofs.PolynomialRing.{product_comm, product_one}
 use Rattle.fj_groebner.specs.Rows.{IsRow, add_multiple}
 use Rattle.fj_groebner.specs.Division.{DegreeAtMost, Sugared, member_at}
-use Rattle.fj_groebner.proofs.Rows.{IsRow-add_multiple, IsRow-one, IsRow-zero}
+use Rattle.fj_groebner.proofs.Rows.{IsPolynomial-list_combination, IsRow-add_multiple, IsRow-one, IsRow-zero}
 use Rattle.fj_poly.specs.Limit.{IsHigh}
 use Rattle.fj_basis.specs.declared.history.Summand.{Summand}
 use Rattle.fj_basis.specs.declared.history.Source.{Source}
@@ -22,7 +22,7 @@ use Rattle.fj_basis.specs.declared.history.Source.TheVariants.{Given, Combined}
 use Rattle.fj_basis.specs.declared.history.Making.{Making}
 use Rattle.fj_basis.specs.Members.{IsRowWithin}
 use Rattle.fj_basis.specs.History.{AreMade, IsMaking, IsSourceOf, IsSummand, combined, polynomial_at}
-use Rattle.fj_basis.specs.Forming.{AllSummands, AreCombined, AreInOrder, AreMarked, AreNeeded, CanBeCombined, CanBeFormed, IsMadeWithRows, IsMarked, UsesBelow}
+use Rattle.fj_basis.specs.Forming.{AllSummands, AreCombined, AreInOrder, AreMarked, AreNeeded, AreRowsFrom, CanBeCombined, CanBeFormed, IsMadeWithRows, IsMarked, UsesBelow}
 use Rattle.fj_basis.proofs.Combined.{combined-more}
 use Rattle.fj_basis.proofs.NextMember.{IsRow-scaled}
 use Rattle.fj_basis.proofs.RowBounds.{DegreeAtMost-add_multiple, DegreeAtMost-empty, DegreeAtMost-product, DegreeAtMost-term}
@@ -127,6 +127,19 @@ module _ {K O : Type 0} {F : Field} {L : List Polynomial} (G : List Sugared) (ma
       by k d marked (inr (inl h)) l = subst (IsRowWithin F L (member_at G k)) (sym (get_or_append_left rows (row ∷ []) d k h)) (old.each k d h marked)
       by k d marked (inr (inr h)) l = absurd (omega (arith, h, l))
 
+  -- All rows are formed.
+  pub formed-all : (from : ℕ) (marks : List Bool) (needed : AreNeeded makings from marks) (rows : List (List Polynomial)) → length rows ≡ length makings → from ≤ length makings → AreFormed marks rows
+      → AreRowsFrom F L G from (drop from rows)
+  formed-all from marks needed rows count within formed =
+      let left = length-drop from rows in
+      let made_long = made.long in
+      record {
+        long = omega (arith, left, count, within, made_long);
+        each = λ k d l.
+            subst (IsRowWithin F L (member_at G (from + k))) (sym (get_or-drop from rows k d))
+            (formed.each (from + k) d (omega (arith, l, left)) (needed.asked (from + k) (omega arith) (omega (arith, l, left, count))));
+      }
+
 -- The row of a constant times a source.
 module _ {F : Field} (laws : IsField F) {L : List Polynomial} (A : ArePolynomials F L) where
   pub source-given : (bound j : ℕ) (f : Polynomial) (row : List Polynomial) (c : ℕ) → c ≡ 1 → j < length L → f ≡ get_or L j empty → row ≡ set (replicate (length L) empty) j (term c origin)
@@ -155,3 +168,20 @@ module _ {F : Field} (laws : IsField F) {L : List Polynomial} (A : ArePolynomial
         (All-map (DegreeAtMost g.sugar) (product F m.constant) row
         (λ k d n. DegreeAtMost-product laws h.constant (w.is.polynomials.each k d n) g.sugar g.sugar (λ a p. let one = h.degree.within a p in omega (arith, one)) (w.within k d n)));
   }
+
+-- What is combined in a making that has its rows.
+pub made-combined : {K O : Type 0} {F : Field} {L : List Polynomial} (G : List Sugared) (g : Sugared) (rows : List (List Polynomial)) (m : Making K O) (h : IsMadeWithRows F L G g rows m) (v : Vec (Summand K O) Global)
+    → m.source ≡ Combined v → AreCombined F L G g.sugar rows v.items × (h.is.made_of ≡ combined F (polynomial_at G) empty v.items)
+made-combined {F = F} {L = L} G g rows m h v e =
+    let own = subst (IsSourceOf F L G g.sugar h.is.made_of) e h.is.source in (
+      record {
+        each = own.0;
+        have_rows = subst (AllSummands (λ s. (s.place < length rows) × ((d : List Polynomial) → IsRowWithin F L (member_at G s.place) (get_or rows s.place d)))) e h.have_rows;
+        low = h.is.low;
+      },
+      own.1,
+    )
+
+-- What has a row is a polynomial.
+pub IsPolynomial-row : {F : Field} (laws : IsField F) {L : List Polynomial} → ArePolynomials F L → (g : Sugared) (row : List Polynomial) → IsRowWithin F L g row → IsPolynomial F g.polynomial
+IsPolynomial-row {F} laws A g row w = subst (IsPolynomial F) (sym w.is.is) (IsPolynomial-list_combination laws w.is.polynomials A)

@@ -16,10 +16,10 @@ use Rattle.fj_theory.specs.Exponents.{origin}
 use Rattle.fj_theory.specs.MonomialOrder.{IsMonomialOrder}
 use Rattle.fj_theory.specs.Polynomial.{IsPolynomial, Polynomial, product, term}
 use Rattle.fj_theory.specs.Ideal.{ArePolynomials}
-use Rattle.fj_theory.specs.Lead.{lead_coefficient, made_monic}
+use Rattle.fj_theory.specs.Lead.{lead_coefficient, lead_exponents, made_monic}
 use Rattle.fj_groebner.specs.Division.{DegreeAtMost, Sugared, degree_limit}
 use Rattle.fj_groebner.specs.Run as definition
-use Rattle.fj_groebner.specs.Run.{append_member, first_members, given, monic_member, pairs_with, run_start}
+use Rattle.fj_groebner.specs.Run.{AreRemovals, append_member, first_members, given, monic_member, pairs_with, run_start}
 use Rattle.fj_theory.proofs.Exponents.{IsExponents-origin}
 use Rattle.fj_theory.proofs.Field.{zero_below}
 use Rattle.fj_theory.proofs.Lead.{lead_coefficient-below, lead_coefficient-nonzero}
@@ -31,16 +31,17 @@ use Rattle.fj_basis.specs.declared.history.Making.{Making}
 use Rattle.fj_basis.specs.declared.history.Source.TheVariants.{Given}
 use Rattle.fj_basis.specs.History.{AreMade, IsHistoryOf, IsMaking, IsSourceOf}
 use Rattle.fj_basis.specs.Members.{AreInPlace, sugared, sugared_members}
+use Rattle.fj_basis.specs.Pending.{HasPairsWith}
+use Rattle.fj_basis.specs.State.{IsAfter, IsPendingOf}
 use Rattle.fj_basis.proofs.Combined.{AreMade-none, HasRecordedOver, IsHistoryOf-over, in_place-none, in_place-push}
-use Rattle.fj_basis.specs.State.{ArePending, HasPairsWith, IsAfter}
 use Rattle.fj_basis.proofs.Gathered.{gathered_all}
 use Rattle.fj_basis.proofs.NextMember.{IsPolynomial-constant, constant-degree, made_monic-nonzero}
-use Rattle.fj_basis.proofs.PendingPairs.{ArePending-append}
+use Rattle.fj_basis.proofs.PendingPairs.{IsPendingOf-append}
 
 -- The start of the run on the first n polynomials of L.
 pub record IsStarted {K R : Type 0} (F : Field) (key : List ℕ → List ℕ) (L : List Polynomial) (n : ℕ) (s : Run K R) : Type 0 where
   pub members : (run_start F key (take n L)).members ≡ sugared_members s.members.items
-  pub pending : ArePending key (run_start F key (take n L)) s.pending.keys
+  pub pending : IsPendingOf key (run_start F key (take n L)) s.pending
   pub in_place : AreInPlace s.members.items
   pub history : IsHistoryOf F L (sugared_members s.members.items) s.history
   pub nonzero : All (λ m. m.polynomial ≢ empty) s.members.items
@@ -100,9 +101,9 @@ module _ (F : Field) (key : List ℕ → List ℕ) where
   unfolding run_start
   start-places N i j c = of_all_pairs (length (first_members F key N)) i j c
 
-  none-ArePending : {R : Type 0} → ArePending {O = R} key (run_start F key []) []
+  none-pending : {R : Type 0} → IsPendingOf {O = R} key (run_start F key []) (record { leads = []; pairs = [] })
   unfolding run_start first_members
-  none-ArePending {R} = record { sound = All-nil _; complete = λ pair c. absurd (contains_nil pair c) }
+  none-pending {R} = record { leads = refl; pairs = record { sound = All-nil _; complete = λ pair c. absurd (contains_nil pair c) } }
 
   none-members : (run_start F key []).members ≡ []
   unfolding run_start first_members
@@ -113,10 +114,10 @@ one-more L n l = ap (λ m. take m L) (add-one n) ∙ take-suc L n empty l
 
 module _ {K R : Type 0} {F : Field} {key : List ℕ → List ℕ} (L : List Polynomial) where
   -- Nothing is read.
-  pub started-none : (s : Run K R) → s.members.items ≡ [] → s.pending.keys ≡ [] → s.history.makings.items ≡ [] → IsStarted F key L 0 s
-  started-none s members keys makings = record {
+  pub started-none : (s : Run K R) → s.members.items ≡ [] → s.pending.leads ≡ [] → s.pending.pairs ≡ [] → s.history.makings.items ≡ [] → IsStarted F key L 0 s
+  started-none s members leads pairs makings = record {
     members = none-members F key ∙ ap sugared_members (sym members);
-    pending = subst (ArePending key (run_start F key [])) (sym keys) (none-ArePending F key);
+    pending = subst (IsPendingOf key (run_start F key [])) (λ i. record { leads = sym leads i; pairs = sym pairs i }) (none-pending F key);
     in_place = subst AreInPlace (sym members) in_place-none;
     history = record { made = λ kept. subst₂ (AreMade F L) (ap sugared_members (sym members)) (sym makings) AreMade-none };
     nonzero = subst (All (λ (m : Member K R). m.polynomial ≢ empty)) (sym members) (All-nil (λ m. m.polynomial ≢ empty));
@@ -128,7 +129,7 @@ module _ {K R : Type 0} {F : Field} {key : List ℕ → List ℕ} (L : List Poly
       let same = sym (ap (run_start F key) (one-more L n l) ∙ start-zero F key (take n L) (get_or L n empty) e) in
       record {
         members = sym (ap (λ t. t.members) same) ∙ before.members;
-        pending = subst (λ t. ArePending key t s.pending.keys) same before.pending;
+        pending = subst (λ t. IsPendingOf key t s.pending) same before.pending;
         in_place = before.in_place;
         history = before.history;
         nonzero = before.nonzero;
@@ -137,38 +138,43 @@ module _ {K R : Type 0} {F : Field} {key : List ℕ → List ℕ} (L : List Poly
   -- One that isn't.
   pub started-more : (n : ℕ) (s new : Run K R) (m : Member K R) → n < length L → get_or L n empty ≢ empty → sugared m ≡ monic_member F key (given (get_or L n empty)) → m.place ≡ length s.members.items → m.sugar ≤ degree_limit
       → HasRecordedOver F L (sugared_members s.members.items) (sugared m) s.history new.history → m.polynomial ≢ empty
-      → new.members.items ≡ s.members.items ++ (m ∷ []) → HasPairsWith key (sugared_members new.members.items) (length s.members.items) s.pending.keys new.pending.keys
+      → new.members.items ≡ s.members.items ++ (m ∷ []) → new.pending.leads ≡ s.pending.leads ++ (lead_exponents key m.polynomial ∷ [])
+      → HasPairsWith new.pending.leads (length s.pending.leads) s.pending.pairs new.pending.pairs
       → IsStarted F key L n s → IsStarted F key L (n + 1) new
   unfolding append_member
-  started-more n s new m l some is place low recorded nonzero whole pairs before =
+  started-more n s new m l some is place low recorded nonzero whole grown pairs before =
       let old = run_start F key (take n L) in
       let g = monic_member F key (given (get_or L n empty)) in
       let same : run_start F key (take (n + 1) L) ≡ append_member old g = ap (run_start F key) (one-more L n l) ∙ start-more F key (take n L) (get_or L n empty) some in
       let are : sugared_members new.members.items ≡ old.members ++ (g ∷ []) =
       ap sugared_members whole ∙ map-append sugared s.members.items (m ∷ []) ∙ ap₂ (λ G h. G ++ (h ∷ [])) (sym before.members) is in
-      let count : length s.members.items ≡ length old.members = sym (ap length before.members ∙ length-map s.members.items sugared) in
       record {
         members = ap (λ t. t.members) same ∙ sym are;
-        pending = subst (λ t. ArePending key t new.pending.keys) (sym same)
-            (ArePending-append key old g s.pending.keys new.pending.keys (start-places F key (take n L)) before.pending (subst₂ (λ G k. HasPairsWith key G k s.pending.keys new.pending.keys) are count pairs));
+        pending = subst (λ t. IsPendingOf key t new.pending) (sym same)
+            (IsPendingOf-append key old g s.pending new.pending (start-places F key (take n L)) before.pending
+            (grown ∙ ap (λ h. s.pending.leads ++ (lead_exponents key h.polynomial ∷ [])) is) pairs);
         in_place = subst AreInPlace (sym whole) (in_place-push s.members.items m before.in_place place low);
         history = subst (λ G. IsHistoryOf F L G new.history) (sym (ap sugared_members whole ∙ map-append sugared s.members.items (m ∷ [])))
             (IsHistoryOf-over (sugared_members s.members.items) (sugared m) s.history new.history recorded before.history);
         nonzero = gathered_all (λ (g : Member K R). g.polynomial ≢ empty) s.members.items new.members.items m before.nonzero nonzero whole;
       }
 
-  -- All are read.
-  pub started-all : ArePolynomials F L → (n : ℕ) (s : Run K R) → length L ≤ n → IsStarted F key L n s → IsAfter F key L 0 s
-  started-all A n s l before =
-      let whole = take_all n L l in
+  -- All are read, and the removals of the start are made.
+  pub started-all : ArePolynomials F L → (n : ℕ) (s new : Run K R) → length L ≤ n → IsStarted F key L n s → new.members.items ≡ s.members.items → new.history ≡ s.history
+      → ((t : definition.Run) → IsPendingOf key t s.pending → (u : definition.Run) × AreRemovals key t u × (u.members ≡ t.members) × IsPendingOf key u new.pending)
+      → IsAfter F key L 0 new
+  started-all A n s new l before same kept removed =
+      let whole = ap (run_start F key) (take_all n L l) in
+      let end = removed (run_start F key L) (subst (λ t. IsPendingOf key t s.pending) whole before.pending) in
       record {
         given = A;
-        state = run_start F key L;
-        run = record { states = []; steps = refl; made = refl };
-        members = ap (λ N. (run_start F key N).members) (sym whole) ∙ before.members;
-        pending = subst (λ N. ArePending key (run_start F key N) s.pending.keys) whole before.pending;
-        in_place = before.in_place;
-        history = before.history;
+        state = end.0;
+        run = record { first = end.0; removals = end.1; states = []; steps = refl; made = refl };
+        members = end.2 ∙ ap (λ t. t.members) (sym whole) ∙ before.members ∙ ap sugared_members (sym same);
+        leads = end.3.leads;
+        pending = end.3.pairs;
+        in_place = subst AreInPlace (sym same) before.in_place;
+        history = subst₂ (λ ms h. IsHistoryOf F L (sugared_members ms) h) (sym same) (sym kept) before.history;
       }
 
   -- A first member isn't zero.

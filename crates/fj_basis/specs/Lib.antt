@@ -6,6 +6,7 @@ pub mod History
 pub mod Forming
 pub mod Place
 pub mod PlaceLaws
+pub mod Pending
 pub mod State
 pub mod Outcome
 pub mod Finished

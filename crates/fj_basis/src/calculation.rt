@@ -115,13 +115,14 @@ fn with_cofactors<K: Coeff, O: Order>(
     pairs: u64,
 ) -> Result<Basis<K, O>, RunFault>
     ensures value { IfOk result (λ b. IsResult K.field O.key list.now pairs b.members) }
+    ensures reduced { IfOk result (λ b. IsReducedBasis K.field O.key list.now b.members) }
     ensures made { IfOk result (IsMadeOf K.field list.now) }
     ensures fault { IsFaultOnlyWhere (Unfinished K.field O.key list.now pairs) (TooHigh K.field O.key list.now pairs) result }
 {
-    let run = finished(alloc, list, pairs, true)?;
-    let down = rows_from(alloc, list, &run.history.makings, run.from)?;
-    let members = polynomials(alloc, run.members)?;
-    Ok(Basis::new(members, down, run.up))
+    let found = finished(alloc, list, pairs, true)?;
+    let down = rows_from(alloc, list, &found.history.makings, found.from)?;
+    let members = polynomials(alloc, found.members)?;
+    Ok(Basis::new(members, down, found.up))
 }
 
 // The members of the reduced basis alone.
@@ -131,10 +132,11 @@ fn alone<K: Coeff, O: Order>(
     pairs: u64,
 ) -> Result<Vec<Poly<K, O>>, RunFault>
     ensures value { IfOk result (λ members. IsResult K.field O.key list.now pairs members.items) }
+    ensures reduced { IfOk result (λ members. IsReducedBasis K.field O.key list.now members.items) }
     ensures fault { IsFaultOnlyWhere (Unfinished K.field O.key list.now pairs) (TooHigh K.field O.key list.now pairs) result }
 {
-    let run = finished(alloc, list, pairs, false)?;
-    Ok(polynomials(alloc, run.members)?)
+    let found = finished(alloc, list, pairs, false)?;
+    Ok(polynomials(alloc, found.members)?)
 }
 
 // The stop of a run on a list, which keeps the list.
@@ -154,7 +156,8 @@ fn stop_of<K: Coeff, O: Order>(
 
 /// The reduced Gröbner basis of the ideal of a list for the order O, rising by lead, with the cofactors of its members
 /// over the list and of the list over the members, by Buchberger's algorithm with at most `pairs` turns (Cox, Little and
-/// O'Shea 2015, chapter 2, section 7).
+/// O'Shea 2015, chapter 2, section 7). A pair that the chain criterion spares is removed without a turn (Buchberger 1979;
+/// Gebauer and Möller 1988).
 ///
 /// `Pairs` exactly where that many turns were made and pairs are pending, `High` exactly where a sugar above 2^40 arises
 /// within these turns or, where no pair is then pending, in finishing. Both keep the list, the terms falling in O. `Product`

@@ -52,7 +52,12 @@ impl<K: Coeff, O: Order> History<K, O> {
     }
 
     /// Records that c times this source is made, where it is asked for.
-    pub(crate) fn push(&mut self, alloc: Global, c: K, source: Source<K, O>) -> Result<(), AllocError>
+    pub(crate) fn push(
+        &mut self,
+        alloc: Global,
+        c: K,
+        source: Source<K, O>,
+    ) -> Result<(), AllocError>
         ensures { OnOk result (HasRecorded (term (K.rank c) origin) source self.old self.new) }
     {
         if self.is_kept {

@@ -13,6 +13,7 @@ mod handed;
 mod history;
 mod members;
 mod pairs;
+mod pending;
 mod run;
 mod stop;
 pub mod types;

@@ -8,3 +8,5 @@ pub mod Limits
 pub mod Changed
 pub mod Values
 pub mod Plain
+pub mod Leads
+pub mod Slots

@@ -1,7 +1,6 @@
 -- Lists of terms in no known order: their polynomial does not depend on the order, and sorted they fall.
 use Rattle.std.proofs.Common.{◌≡◌, ◌≢◌, ℕ, suc, ◌+◌, ◌<◌, ◌≤◌, ◌^◌, Bool, true, false, cond, List, [], ◌∷◌, length, get_or, map, All, AllPairs, Option, Some, None, Ordering, Less, Equal, Greater, nat_cmp, refl, sym, ap, ap₂, ◌∙◌, subst, arith}
-use Rattle.std.specs.FinMap.{from_entries, get-from_entries, find, same_map}
-use Rattle.std.specs.List.{IsDistinct}
+use Rattle.std.specs.FinMap.{get-from_entries, find, same_map}
 use Rattle.std.specs.List.Sorted.{IsPermutation, IsSortedBy}
 use Rattle.std.specs.Ordering.{is_lt}
 use Rattle.std.specs.Cmp.Lexicographic.{slice_cmp}

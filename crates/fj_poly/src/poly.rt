@@ -1,16 +1,22 @@
+//! Polynomials as lists of terms that fall in an order.
 ghost use Rattle.std.specs.Prelude.{◌≡◌, ◌≢◌, ◌<◌, ◌↔◌, ◌++◌, ◌∷◌, [], All, IfOk, IfErr, IsTrue, length, slice_get};
 ghost use Rattle.std.specs.Option.{option_map};
 ghost use Rattle.std.specs.declared.cmp.Ordering.TheVariants.{Greater};
-ghost use Rattle.std.specs.FinMap.{empty, len};
+ghost use Rattle.std.specs.FinMap.{empty, from_entries, len};
 ghost use Rattle.fj_theory.specs.MonomialOrder.{compare_by};
-ghost use Rattle.fj_theory.specs.Polynomial.{IsPolynomial, coefficient, degree, lead, sum, term, terms_falling};
+ghost use Rattle.fj_theory.specs.Polynomial.{IsFalling, IsPolynomial, coefficient, degree, lead, sum, term, terms_falling};
 ghost use Rattle.fj_poly.specs.Limit.{IsHigh};
+ghost use Rattle.fj_poly.specs.Slots.{without_lead};
+ghost use Rattle.fj_poly.specs.Terms.{AreTerms, entries};
 
-mod order;
+mod difference;
+pub(crate) mod merge;
 mod plain;
 pub(crate) mod point;
-mod product;
+pub(crate) mod product;
+mod reordering;
 
+use self::merge::merge_terms;
 use fj_coeff::Coeff;
 use fj_mono::{Grevlex, Mono, Order};
 use std::alloc::{AllocError, Global};
@@ -19,9 +25,9 @@ use std::marker::{Model, PhantomData};
 
 /// A term: a nonzero coefficient times a monomial.
 #[derive(Clone, Copy, PartialEq, Eq)]
-struct Term<K: Coeff> {
-    coefficient: K,
-    monomial: Mono,
+pub(crate) struct Term<K: Coeff> {
+    pub(crate) coefficient: K,
+    pub(crate) monomial: Mono,
 }
 
 /// A polynomial in eight variables over K, a finite map from exponent lists to nonzero coefficients. Its terms are kept
@@ -104,41 +110,32 @@ impl<K: Coeff, O: Order> Poly<K, O> {
         ensures second { IsPolynomial K.field o.now }
         ensures polynomial { IfOk result (IsPolynomial K.field) }
     {
-        let mut left = self.terms.as_slice();
-        let mut right = o.terms.as_slice();
-        let mut terms = Vec::with_capacity(alloc, left.len().saturating_add(right.len()))?;
-        'merge: while let (Some((first, others)), Some((second, more))) = (
-            left.split_first(),
-            right.split_first(),
-        ) {
-            match O::cmp(&first.monomial, &second.monomial) {
-                Ordering::Greater => {
-                    terms.push(*first)?;
-                    left = others;
-                }
-                Ordering::Less => {
-                    terms.push(*second)?;
-                    right = more;
-                }
-                Ordering::Equal => {
-                    let coefficient = first.coefficient.add(second.coefficient);
-                    if coefficient != K::zero() {
-                        terms.push(Term {
-                            coefficient,
-                            monomial: first.monomial,
-                        })?;
-                    }
-                    left = others;
-                    right = more;
-                }
-            }
-        }
-        terms.extend_from_slice(left)?;
-        terms.extend_from_slice(right)?;
+        let count = self.terms.len().saturating_add(o.terms.len());
+        let mut terms = Vec::with_capacity(alloc, count)?;
+        merge_terms::<K, O>(&mut terms, self.terms.as_slice(), o.terms.as_slice())?;
         Ok(Poly {
             terms,
             order: PhantomData,
         })
+    }
+
+    // The terms, falling.
+    pub(crate) fn terms(&self) -> &[Term<K>]
+        ensures value { from_entries (entries K.rank result.now) ≡ self.now }
+        ensures falls { IsFalling O.key (entries K.rank result.now) }
+        ensures terms { AreTerms K.field (entries K.rank result.now) }
+    {
+        self.terms.as_slice()
+    }
+
+    // The terms after the first, falling.
+    pub(crate) fn later_terms(&self) -> &[Term<K>]
+        requires { self.now ≢ empty }
+        ensures value { from_entries (entries K.rank result.now) ≡ without_lead K.field O.key self.now }
+        ensures falls { IsFalling O.key (entries K.rank result.now) }
+        ensures terms { AreTerms K.field (entries K.rank result.now) }
+    {
+        &self.terms[1..]
     }
 
     /// The lead: the coefficient and the monomial of the greatest term in O. `None` exactly for zero.

@@ -1,4 +1,5 @@
-ghost use Rattle.std.specs.Prelude.{◌≡◌, ◌≢◌, ◌↔◌, All, IfOk, IsTrue};
+//! Multiples, products and powers.
+ghost use Rattle.std.specs.Prelude.{◌≡◌, ◌≢◌, ◌↔◌, All, IfOk, IsTrue, OnOk};
 ghost use Rattle.std.specs.FinMap.{from_entries};
 ghost use Rattle.fj_coeff.specs.Field as field;
 ghost use Rattle.fj_theory.specs.Exponents.{origin};
@@ -129,12 +130,7 @@ impl<K: Coeff, O: Order> Poly<K, O> {
         ensures { IfOk result (λ p. p ≡ product K.field (term (K.rank c) m.now.exponents) self.now) }
     {
         let mut terms = Vec::with_capacity(alloc, self.terms.len())?;
-        for t in self.terms.as_slice() {
-            terms.push(Term {
-                coefficient: c.mul(t.coefficient),
-                monomial: m.try_mul(&t.monomial).unwrap(),
-            })?;
-        }
+        fill_multiple::<K, O>(&mut terms, c, m, self.terms.as_slice())?;
         Ok(Poly {
             terms,
             order: PhantomData,
@@ -217,6 +213,32 @@ impl<K: Coeff, O: Order> Poly<K, O> {
         let digit = self.digit_power(alloc, k % K::P)?;
         power.product_within(alloc, &digit)
     }
+}
+
+/// Fills a list, emptied first, with the terms of the product of a term and a polynomial, given by its falling list of
+/// terms, of which no term is high.
+pub(crate) fn fill_multiple<K: Coeff, O: Order>(
+    multiple: &mut Vec<Term<K>>,
+    c: K,
+    m: &Mono,
+    terms: &[Term<K>],
+) -> Result<(), AllocError>
+    requires nonzero { K.rank c ≢ 0 }
+    requires falls { IsFalling O.key (entries K.rank terms.now) }
+    requires terms { AreTerms K.field (entries K.rank terms.now) }
+    requires within { IsHigh (product K.field (term (K.rank c) m.now.exponents) (from_entries (entries K.rank terms.now))) → ⊥ }
+    ensures value { OnOk result (from_entries (entries K.rank multiple.new.items) ≡ product K.field (term (K.rank c) m.now.exponents) (from_entries (entries K.rank terms.now))) }
+    ensures falls { OnOk result (IsFalling O.key (entries K.rank multiple.new.items)) }
+    ensures terms { OnOk result (AreTerms K.field (entries K.rank multiple.new.items)) }
+{
+    multiple.clear();
+    for t in terms {
+        multiple.push(Term {
+            coefficient: c.mul(t.coefficient),
+            monomial: m.try_mul(&t.monomial).unwrap(),
+        })?;
+    }
+    Ok(())
 }
 
 // The k-th power of a coefficient, by repeated squares.

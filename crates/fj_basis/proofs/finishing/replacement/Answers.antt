@@ -34,7 +34,7 @@ returns-clause-recorded g c = λ G long P place at.
     let key = g.O.Order.key in
     let B = sugared_members c.args.replaced.now in
     let last = c.in_ok-division.division in
-    let is : record { polynomial = last.remainder; sugar = last.sugar } ≡ record { polynomial = c.into_parts-polynomial.polynomial; sugar = c.into_parts-polynomial.sugar } =
+    let is : record { polynomial = last.remainder; sugar = last.sugar } ≡ record { polynomial = c.into_parts-polynomial.result.1; sugar = c.into_parts-polynomial.result.2 } =
     (λ i. record { polynomial = sym c.into_parts-polynomial.ensures.remainder i; sugar = sym c.into_parts-polynomial.ensures.sugar i }) in
     subst (λ h. HasRecordedMember F (G ++ B) h c.args.history.now c.record.new.history) is
     (c.in_ok-record.ensures G B last long place P (record { polynomials = c.requires.polynomials; nonzero = c.requires.nonzero; within = c.requires.within })

@@ -51,7 +51,7 @@ returns g c =
     record {
       first = c.in_ok-first.first;
       second = c.in_ok-second.second;
-      are = ?;
+      are = c.in_ok-vec.ensures.items;
       first_place = c.in_ok-first.ensures.place ∙ c.first.ensures;
       first_factor = c.in_ok-first.ensures.factor ∙ ap₂ term c.one.ensures (ap₂ (λ a k. minus a (lead_of key G k)) is c.first.ensures);
       second_place = c.in_ok-second.ensures.place ∙ c.second.ensures;

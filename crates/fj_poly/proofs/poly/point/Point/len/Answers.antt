@@ -1,4 +1,4 @@
-use Rattle.std.proofs.Common.{ℕ, ◌<◌, ◌≤◌, All, length, map, subst, arith}
+use Rattle.std.proofs.Common.{◌<◌, ◌≤◌, length, map, subst, arith}
 use Rattle.std.proofs.lemmas.List.{length-map}
 use Rattle.std.proofs.lemmas.List.Elements.{All-map}
 use Rattle.fj_theory.specs.Evaluation.{IsPoint}
