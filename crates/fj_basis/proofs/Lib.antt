@@ -33,3 +33,4 @@ pub mod Marks
 pub mod Turning
 pub mod Starting
 pub mod Copies
+pub mod Dividing

@@ -12,3 +12,4 @@ pub mod Outcome
 pub mod Finished
 pub mod Basis
 pub mod Calculation
+pub mod Leads

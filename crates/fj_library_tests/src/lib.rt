@@ -5,6 +5,8 @@
 #[cfg(test)]
 mod bases;
 #[cfg(test)]
+mod buckets;
+#[cfg(test)]
 mod certificates;
 #[cfg(test)]
 mod fields;

@@ -125,7 +125,7 @@ static PARTS: [Row<'static>; 25] = [
     ),
     (
         GO,
-        b"ring 2 x\npoly f = x\nideal J = (x)\npoint P = (0)\nask fpure J P\nask parts 0 f\nask nu 1 f J\n",
+        b"ring 2 x\npoly f = x\nideal J = (x)\npoint P = (0)\nask threshold f P 1\nask parts 0 f\nask nu 1 f J\n",
         3,
         b"1: later\n2: part (0) = x\n3: later\n",
     ),
@@ -286,6 +286,67 @@ static LIMITS: [Row<'static>; 6] = [
     ),
 ];
 
+/// F-purity, the ideal of splittings and compatible ideals, and what stops them.
+static SPLITTINGS: [Row<'static>; 9] = [
+    (
+        GO,
+        b"ring 5 x, y, z\nideal F = (x^3+y^3+z^3)\nask fpure F\n",
+        0,
+        b"1: no\n",
+    ),
+    (
+        GO,
+        b"ring 7 x, y, z\nideal F = (x^3+y^3+z^3)\nideal axes = (x*y, x*z, y*z)\nask fpure F\nask fpure axes\nask split axes\n",
+        0,
+        b"1: yes\n2: yes\n3: (1)\n",
+    ),
+    (
+        GO,
+        b"ring 2 x, y, z\nideal A = (x*y, x*z, y*z)\nideal B = (x^2)\nideal C = (0)\nideal D = (1)\nask fpure A\nask fpure B\nask fpure C\nask fpure D\nask split B\n",
+        0,
+        b"1: yes\n2: no\n3: yes\n4: yes\n5: (x)\n",
+    ),
+    (
+        GO,
+        b"ring 2 x, y\nideal J = (x^2*y+x^2)\npoint P = (1, 1)\npoint Q = (0, 0)\npoint R = (1, 0)\nask fpure J\nask fpure J P\nask fpure J Q\nask fpure J R\n",
+        0,
+        b"1: no\n2: yes\n3: no\n4: off\n",
+    ),
+    (
+        GO,
+        b"ring 2 x, y\nideal J = (x*y^2+x)\npoint O = (0, 0)\nask fpure J\nask fpure J O\n",
+        0,
+        b"1: no\n2: yes\n",
+    ),
+    (
+        GO,
+        b"ring 3 x, y\npoly u = x^2*y^2\nideal J = (x)\nideal K = (x+y)\nask compatible 1 u J\nask compatible 1 u K\nask compatible 0 u K\nask compatible 12 u J\n",
+        0,
+        b"1: yes\n2: no\n3: yes\n4: no\n",
+    ),
+    // The reduced basis for the printing order: of the double of a quadric the quadric.
+    (
+        GO,
+        b"ring 2 x, y, z\nideal J = ((x*z+y^2)^2)\nask split J\norder lex\nask split J\n",
+        0,
+        b"1: (y^2+x*z)\n2: (x*z+y^2)\n",
+    ),
+    // Seven variables.
+    (
+        GO,
+        b"ring 13 a, b, c, d, e, f, g\nideal J = (a*b*c*d*e*f*g)\npoint P = (0, 1, 2, 3, 4, 5, 6)\nask fpure J\nask fpure J P\n",
+        0,
+        b"1: yes\n2: yes\n",
+    ),
+    // The list of the quotient takes more turns than the ideal.
+    (
+        GO,
+        b"ring 2 x, y, z\nideal A = (x*y, x*z, y*z)\npoint O = (0, 0, 0)\npoint P = (1, 1, 1)\nbudget 3\nask fpure A\nask split A\nask fpure A O\nask fpure A P\n",
+        3,
+        b"1: stopped pairs\n2: stopped pairs\n3: stopped pairs\n4: off\n",
+    ),
+];
+
 /// A fault of each kind but Long.
 static FAULTS: [Row<'static>; 15] = [
     (GO, b"ring 4 x\n", 2, b"fault Prime at 1:6\n"),
@@ -407,6 +468,7 @@ fn answers_sessions(rt: HostRuntime) -> Result<(), Fail> {
     all_end(&rt, rt.alloc(), &IDEALS)?;
     all_end(&rt, rt.alloc(), &ELIMINATION)?;
     all_end(&rt, rt.alloc(), &LIMITS)?;
+    all_end(&rt, rt.alloc(), &SPLITTINGS)?;
     all_end(&rt, rt.alloc(), &FAULTS)
 }
 
