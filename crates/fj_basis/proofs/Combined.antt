@@ -1,8 +1,8 @@
 -- Sums of multiples, and histories that grow.
-use Rattle.std.proofs.Common.{◌≡◌, ◌⊎◌, inl, inr, ⊎_elim, ℕ, zero, suc, ◌+◌, ◌<◌, ◌≤◌, true, List, [], ◌∷◌, ◌++◌, length, length-append, map, take, get_or, All, refl, sym, ap, ap₂, ◌∙◌, subst, subst₂, arith, add-one}
+use Rattle.std.proofs.Common.{◌≡◌, ◌⊎◌, inl, inr, ℕ, zero, suc, ◌+◌, ◌<◌, ◌≤◌, true, List, [], ◌∷◌, ◌++◌, length, length-append, map, take, get_or, All, refl, sym, ap, ap₂, ◌∙◌, subst, subst₂, arith, add-one}
 use Rattle.std.specs.FinMap.{empty}
 use Rattle.std.proofs.Math.Seq.{take-suc}
-use Rattle.std.proofs.lemmas.List.{get_or-append-add, get_or-take, get_or_append_left, get_or_push, length-map, length-take-le, take-append-le, take_all}
+use Rattle.std.proofs.lemmas.List.{get_or-append-add, get_or-take, get_or_append_left, get_or_push, length-take-le, take-append-le, take_all}
 use Rattle.std.proofs.lemmas.Bool.{cases_order}
 use Rattle.std.proofs.lemmas.List.Elements.{All-nil, All-push}
 use Rattle.fj_coeff.specs.Field.{Field, IsField}

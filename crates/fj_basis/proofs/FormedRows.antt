@@ -1,12 +1,12 @@
 -- Rows of cofactors of polynomials, from the rows of what they are made of.
-use Rattle.std.proofs.Common.{◌≡◌, ◌⊎◌, inl, inr, ℕ, ◌+◌, ◌^◌, ◌<◌, ◌≤◌, Bool, true, false, List, [], ◌∷◌, ◌++◌, length, length-append, map, take, drop, length-drop, Vec, Global, replicate, set, get_or, All, refl, sym, ap, ap₂, ◌∙◌, subst, subst₂, arith, add-one}
+use Rattle.std.proofs.Common.{◌≡◌, ◌⊎◌, inl, inr, ℕ, ◌+◌, ◌^◌, ◌<◌, ◌≤◌, Bool, List, [], ◌∷◌, ◌++◌, length, length-append, map, take, drop, length-drop, Vec, Global, replicate, set, get_or, All, sym, ap, ◌∙◌, subst, subst₂, arith, add-one}
 use Rattle.std.specs.FinMap.{empty}
 use Rattle.std.proofs.Math.Seq.{take-suc}
-use Rattle.std.proofs.lemmas.List.{get_or-drop, get_or-take, get_or_append_left, get_or_push, length-take-le, take_all}
+use Rattle.std.proofs.lemmas.List.{get_or-drop, get_or-take, get_or_append_left, get_or_push, length-take-le}
 use Rattle.std.proofs.lemmas.Bool.{cases_order}
 use Rattle.std.proofs.lemmas.List.Elements.{All-map, All-replicate, All-set, All-weaker}
 use Rattle.fj_coeff.specs.Field.{Field, IsField}
-use Rattle.fj_theory.specs.Exponents.{origin, total}
+use Rattle.fj_theory.specs.Exponents.{origin}
 use Rattle.fj_theory.specs.Polynomial.{Polynomial, IsPolynomial, product, sum, term}
 use Rattle.fj_theory.specs.Ideal.{ArePolynomials}
 use Rattle.fj_theory.proofs.Exponents.{total_origin}
@@ -22,7 +22,7 @@ use Rattle.fj_basis.specs.declared.history.Source.TheVariants.{Given, Combined}
 use Rattle.fj_basis.specs.declared.history.Making.{Making}
 use Rattle.fj_basis.specs.Members.{IsRowWithin}
 use Rattle.fj_basis.specs.History.{AreMade, IsMaking, IsSourceOf, IsSummand, combined, polynomial_at}
-use Rattle.fj_basis.specs.Forming.{AllSummands, AreCombined, AreInOrder, AreMarked, AreNeeded, AreRowsFrom, CanBeCombined, CanBeFormed, IsMadeWithRows, IsMarked, UsesBelow}
+use Rattle.fj_basis.specs.Forming.{AllSummands, AreCombined, AreInOrder, AreMarked, AreNeeded, AreRowsFrom, IsMadeWithRows, IsMarked, UsesBelow}
 use Rattle.fj_basis.proofs.Combined.{combined-more}
 use Rattle.fj_basis.proofs.NextMember.{IsRow-scaled}
 use Rattle.fj_basis.proofs.RowBounds.{DegreeAtMost-add_multiple, DegreeAtMost-empty, DegreeAtMost-product, DegreeAtMost-term}

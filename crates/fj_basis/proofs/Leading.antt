@@ -1,10 +1,10 @@
 -- Members of a run, their leads and their multiples.
-use Rattle.std.proofs.Common.{◌≡◌, ◌≢◌, ℕ, suc, ◌+◌, ◌-◌, ◌<◌, ◌≤◌, max, List, [], ◌∷◌, ◌++◌, length, length-append, get_or, All, IsTrue, Option, Some, None, is_some, true, Result, Ok, Err, refl, sym, ap, ap₂, ◌∙◌, subst, arith}
+use Rattle.std.proofs.Common.{◌≡◌, ◌≢◌, ℕ, ◌+◌, ◌-◌, ◌<◌, ◌≤◌, max, List, length, get_or, All, IsTrue, Option, Some, None, is_some, true, Result, Ok, Err, refl, sym, ap, ◌∙◌, subst, arith}
 use Rattle.std.specs.FinMap.{empty}
-use Rattle.std.proofs.lemmas.List.{length-map, get_or_default, get_or_append_left, get_or_push}
+use Rattle.std.proofs.lemmas.List.{length-map}
 use Rattle.fj_algebra.proofs.Lists.{All-map_back}
 use Rattle.fj_coeff.specs.Field.{Field, IsField}
-use Rattle.fj_theory.specs.Exponents.{IsExponents, total, minus, divides, least_common_multiple}
+use Rattle.fj_theory.specs.Exponents.{IsExponents, total, minus, divides}
 use Rattle.fj_theory.specs.MonomialOrder.{IsMonomialOrder}
 use Rattle.fj_theory.specs.Polynomial.{difference, Polynomial, IsPolynomial, product, term}
 use Rattle.fj_theory.specs.Ideal.{ArePolynomials}
@@ -140,20 +140,6 @@ some_multiple F key G p own low None e =
 
 pub multiple_is : {R : Type 0} (key : List ℕ → List ℕ) (G : List Sugared) (p : Pair R) → IsPairOf key G p → (m : Monomial) → Some m ≡ p.multiple → m.exponents ≡ pair_multiple key G (p.i, p.j)
 multiple_is key G p own m e = subst (IsWithinLimit (pair_multiple key G (p.i, p.j))) (sym e) own.multiple
-
--- The pair of a member that is appended with an earlier one.
-pub pair_of-appended : {K R : Type 0} (key : List ℕ → List ℕ) (members : List (Member K R)) (new m : Member K R) (i : ℕ) (p : Pair R) → i < length members → m ≡ get_or members i m
-    → p.i ≡ i → p.j ≡ length members → IsWithinLimit (least_common_multiple (lead_exponents key m.polynomial) (lead_exponents key new.polynomial)) p.multiple
-    → IsPairOf key (sugared_members (members ++ new ∷ [])) p
-unfolding pair_multiple
-pair_of-appended key members new m i p l is is_i is_j within =
-    let long = length-append members (new ∷ []) in
-    let first = lead_of-is key (members ++ new ∷ []) i m (omega (arith, l, long)) (is ∙ sym (get_or_append_left members (new ∷ []) m i l)) in
-    let second = lead_of-is key (members ++ new ∷ []) (length members) new (omega (arith, long)) (sym (get_or_push members new new (length members) refl)) in
-    record {
-      multiple = subst (λ a. IsWithinLimit a p.multiple)
-          (ap₂ least_common_multiple (sym first ∙ ap (lead_of key (sugared_members (members ++ new ∷ []))) (sym is_i)) (sym second ∙ ap (lead_of key (sugared_members (members ++ new ∷ []))) (sym is_j))) within;
-    }
 
 -- Its polynomial.
 pub s-polynomial : (F : Field) (key : List ℕ → List ℕ) (G : List Sugared) (i j : ℕ)

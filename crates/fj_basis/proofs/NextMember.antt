@@ -1,7 +1,6 @@
 -- The member that a pair of a run gives.
 use Rattle.std.proofs.Common.{◌≡◌, ◌≢◌, ℕ, zero, suc, ◌+◌, ◌-◌, ◌<◌, ◌≤◌, Option, Some, None, List, [], ◌∷◌, get_or, length, map, replicate, All, IsTrue, refl, sym, ap, ap₂, ◌∙◌, subst, subst₂, arith}
 use Rattle.std.specs.FinMap.{empty}
-use Rattle.std.proofs.lemmas.List.{get_or_default}
 use Rattle.std.proofs.lemmas.List.Elements.{All-cons, All-nil}
 use Rattle.fj_coeff.specs.Field.{Field, IsField}
 use Rattle.fj_theory.specs.Exponents.{IsExponents, divides, minus, origin, total}
@@ -25,9 +24,9 @@ use Rattle.fj_theory.proofs.PolynomialRing.{IsPolynomial-negation, sum_comm, sum
 use Rattle.fj_theory.proofs.Product.{IsPolynomial-product}
 use Rattle.fj_groebner.proofs.Rows.{IsRow-add_multiple, IsRow-zero, list_combination-negation}
 use Rattle.fj_theory.proofs.Steps.{StepsTo-keeps}
-use Rattle.fj_groebner.proofs.Sugar.{DegreeAtMost-made_monic, StepsTo-IsWithinSugar}
+use Rattle.fj_groebner.proofs.Sugar.{StepsTo-IsWithinSugar}
 use Rattle.fj_basis.specs.declared.members.Member.{Member}
-use Rattle.fj_basis.specs.Members.{sugared, sugared_members}
+use Rattle.fj_basis.specs.Members.{sugared_members}
 use Rattle.fj_basis.specs.declared.history.Summand.{Summand}
 use Rattle.fj_basis.specs.declared.history.Making.{Making}
 use Rattle.fj_basis.specs.History.{ArePairSummands, IsMaking, IsSourceOf, IsSummand, IsWithNegatives, combined, polynomial_at, subtracted}

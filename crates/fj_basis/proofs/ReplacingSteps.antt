@@ -1,5 +1,5 @@
 -- The second act of finishing, as the code goes through it: members are replaced in turn.
-use Rattle.std.proofs.Common.{◌≡◌, ℕ, ◌+◌, true, length-append, append_assoc, ◌<◌, ◌≤◌, List, [], ◌∷◌, ◌++◌, length, map, All, Contains, refl, sym, ap, ◌∙◌, subst, subst₂, arith}
+use Rattle.std.proofs.Common.{◌≡◌, ℕ, ◌+◌, true, length-append, append_assoc, ◌<◌, ◌≤◌, List, [], ◌∷◌, ◌++◌, length, All, Contains, refl, sym, ap, ◌∙◌, subst, arith}
 use Rattle.std.proofs.lemmas.List.{append-nil, map-append}
 use Rattle.std.proofs.lemmas.List.Elements.{All-head, All-tail, All-contains}
 use Rattle.fj_algebra.proofs.Lists.{All-map_back}

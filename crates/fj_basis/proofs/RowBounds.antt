@@ -1,11 +1,11 @@
 -- Bounds of the totals of the terms in rows of cofactors.
-use Rattle.std.proofs.Common.{◌≡◌, ◌⊎◌, Bool, true, false, cond, ℕ, suc, ◌+◌, ◌<◌, ◌≤◌, Option, Some, None, List, [], ◌∷◌, length, map, get_or, All, refl, sym, ap, ap₂, ◌∙◌, subst, arith, eq-zero-or-pos, ⊎_elim, inl, inr}
+use Rattle.std.proofs.Common.{◌≡◌, ◌⊎◌, Bool, true, false, cond, ℕ, ◌+◌, ◌<◌, ◌≤◌, Option, Some, None, List, [], ◌∷◌, All, refl, sym, ap, ap₂, ◌∙◌, subst, arith, eq-zero-or-pos, ⊎_elim, inl, inr}
 use Rattle.std.specs.FinMap.{empty}
 use Rattle.std.proofs.lemmas.List.Elements.{All-cons, All-head, All-tail}
 use Rattle.fj_coeff.specs.Field.{Field, IsField}
 use Rattle.fj_theory.proofs.OrderedPolynomials.{exponents_of}
 use Rattle.fj_theory.specs.Exponents.{total}
-use Rattle.fj_theory.specs.Polynomial.{Polynomial, IsPolynomial, coefficient, degree, negation, product, sum, term}
+use Rattle.fj_theory.specs.Polynomial.{Polynomial, IsPolynomial, coefficient, degree, product, sum, term}
 use Rattle.fj_theory.specs.Ideal.{ArePolynomials}
 use Rattle.fj_groebner.specs.Rows.{add_multiple}
 use Rattle.fj_groebner.specs.Division.{DegreeAtMost}
@@ -23,9 +23,6 @@ term-positive c a b p = by (same b a) refl
     by : (t : Bool) → same b a ≡ t → b ≡ a
     by true e = same_true b a e
     by false e = let none = coefficient-term c a b ∙ ap (λ t. cond t c 0) e in absurd (omega (arith, none, p))
-
-pub DegreeAtMost-more : {m n : ℕ} {f : Polynomial} → m ≤ n → DegreeAtMost m f → DegreeAtMost n f
-DegreeAtMost-more le b = record { within = λ a p. let own = b.within a p in omega (arith, own, le) }
 
 pub DegreeAtMost-empty : (n : ℕ) → DegreeAtMost n empty
 DegreeAtMost-empty n = record { within = λ a p. let none = coefficient-empty a in absurd (omega (arith, none, p)) }

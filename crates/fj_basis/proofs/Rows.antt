@@ -1,21 +1,19 @@
 -- Rows of cofactors entry by entry, as the code changes them.
-use Rattle.std.proofs.Common.{◌≡◌, ℕ, zero, suc, ◌+◌, ◌^◌, ◌<◌, ◌≤◌, Option, Some, None, List, [], ◌∷◌, ◌++◌, nat_cmp, length, map, take, get_or, set, refl, sym, ap, ap₂, ◌∙◌, arith, add-one, eq-zero-or-pos, ⊎_elim}
+use Rattle.std.proofs.Common.{◌≡◌, ℕ, zero, suc, ◌+◌, ◌^◌, ◌<◌, ◌≤◌, Option, Some, None, List, [], ◌∷◌, ◌++◌, nat_cmp, length, map, get_or, set, refl, sym, ap, ap₂, ◌∙◌, arith, add-one, eq-zero-or-pos, ⊎_elim}
 use Rattle.std.specs.List.{flat_map}
 use Rattle.std.specs.FinMap.{empty, entries, len-entries, len-empty}
 use Rattle.std.specs.Cmp.Lexicographic.{slice_cmp}
-use Rattle.std.proofs.lemmas.List.{get_or_default, get_or-map, length-map, nil_from_length}
+use Rattle.std.proofs.lemmas.List.{get_or_default, nil_from_length}
 use Rattle.fj_coeff.specs.Field.{Field, IsField}
 use Rattle.fj_theory.specs.Exponents.{origin, plus, total}
 use Rattle.fj_theory.specs.Polynomial.{Polynomial, IsPolynomial, coefficient, degree, sum, product, negation, term, with_coefficients, support}
 use Rattle.fj_theory.specs.Ideal.{ArePolynomials}
-use Rattle.fj_groebner.specs.Rows.{add_multiple, add_multiples}
+use Rattle.fj_groebner.specs.Rows.{add_multiple}
 use Rattle.fj_groebner.specs.Division.{DegreeAtMost}
 use Rattle.fj_theory.proofs.Exponents.{IsExponents-origin}
 use Rattle.fj_theory.proofs.Field.{one_below}
-use Rattle.fj_theory.proofs.Polynomial.{IsPolynomial-sum}
-use Rattle.fj_theory.proofs.Product.{IsPolynomial-product}
 use Rattle.fj_theory.proofs.PolynomialRing.{sum_empty, product_comm, product_one, coefficient-negation, neg_zero_rank}
-use Rattle.fj_theory.proofs.IdealBridge.{IsPolynomial-one, ArePolynomials-cons, ArePolynomials-head, ArePolynomials-tail}
+use Rattle.fj_theory.proofs.IdealBridge.{IsPolynomial-one, ArePolynomials-head, ArePolynomials-tail}
 use Rattle.fj_theory.proofs.Degree.{degree-product, degree_attained}
 use Rattle.fj_poly.specs.Limit.{IsHigh}
 use Rattle.fj_poly.proofs.Limits.{low_degree, low_product_none, low_product_none_right}
@@ -98,15 +96,6 @@ module _ {F : Field} (L : IsField F) where
   added-zero f (suc n) (x ∷ xs) (y ∷ ys) l e A z =
       ap (λ zs. sum F x (product F f y) ∷ zs) (added-zero f n xs ys (omega (arith, l)) (omega (arith, e)) (ArePolynomials-tail A) z ∙ ap (λ m. added F f m xs ys) (add-one n))
       ∙ ap (λ m. added F f m (x ∷ xs) (y ∷ ys)) (sym (add-one (suc n)))
-
-  pub ArePolynomials-add_multiple : {f : Polynomial} → IsPolynomial F f → (xs ys : List Polynomial) → ArePolynomials F xs → ArePolynomials F ys
-      → ArePolynomials F (add_multiple F f xs ys)
-  unfolding add_multiple
-  ArePolynomials-add_multiple P [] ys A B = A
-  ArePolynomials-add_multiple P (x ∷ xs) [] A B = A
-  ArePolynomials-add_multiple P (x ∷ xs) (y ∷ ys) A B =
-      ArePolynomials-cons (IsPolynomial-sum L (ArePolynomials-head A) (IsPolynomial-product L P (ArePolynomials-head B)))
-      (ArePolynomials-add_multiple P xs ys (ArePolynomials-tail A) (ArePolynomials-tail B))
 
   -- The negative is the product with the negative of one.
   pub scale-negation : {f : Polynomial} → IsPolynomial F f → product F (term (F.neg 1) origin) f ≡ negation F f

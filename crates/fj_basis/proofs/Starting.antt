@@ -1,5 +1,5 @@
 -- The start of a run, a given polynomial at a time.
-use Rattle.std.proofs.Common.{◌≡◌, ◌≢◌, ℕ, ◌+◌, ◌<◌, ◌≤◌, ◌==◌, not, Bool, true, false, cond, List, [], ◌∷◌, ◌++◌, length, length-append, map, filter, take, get_or, set, replicate, All, Contains, refl, sym, ap, ap₂, ◌∙◌, subst, subst₂, arith, add-one, eq-eqb}
+use Rattle.std.proofs.Common.{◌≡◌, ◌≢◌, ℕ, ◌+◌, ◌<◌, ◌≤◌, ◌==◌, not, Bool, true, false, cond, List, [], ◌∷◌, ◌++◌, length, length-append, map, filter, take, get_or, All, Contains, refl, sym, ap, ap₂, ◌∙◌, subst, subst₂, arith, add-one, eq-eqb}
 use Rattle.std.specs.List.{flat_map, range_with_len}
 use Rattle.std.specs.FinMap.{empty, len, len-empty, empty_of_len}
 use Rattle.std.specs.Cmp.Lexicographic.{slice_cmp}
@@ -7,8 +7,8 @@ use Rattle.std.specs.Ordering.{nat_cmp}
 use Rattle.std.proofs.Math.Seq.{take-suc}
 use Rattle.std.proofs.lemmas.Bool.{ne_eqb}
 use Rattle.std.proofs.lemmas.Grind.{flat_map-append}
-use Rattle.std.proofs.lemmas.List.{append-nil, length-map, map-append, map-id, take_all}
-use Rattle.std.proofs.lemmas.List.Elements.{All-nil, All-replicate, All-set, filter-append}
+use Rattle.std.proofs.lemmas.List.{append-nil, map-append, map-id, take_all}
+use Rattle.std.proofs.lemmas.List.Elements.{All-nil, filter-append}
 use Rattle.std.proofs.lemmas.List.FromFn.{map-range_with_len_more}
 use Rattle.fj_algebra.proofs.Pairs.{contains_nil}
 use Rattle.fj_coeff.specs.Field.{Field, IsField}
@@ -20,10 +20,6 @@ use Rattle.fj_theory.specs.Lead.{lead_coefficient, lead_exponents, made_monic}
 use Rattle.fj_groebner.specs.Division.{DegreeAtMost, Sugared, degree_limit}
 use Rattle.fj_groebner.specs.Run as definition
 use Rattle.fj_groebner.specs.Run.{AreRemovals, append_member, first_members, given, monic_member, pairs_with, run_start}
-use Rattle.fj_theory.proofs.Exponents.{IsExponents-origin}
-use Rattle.fj_theory.proofs.Field.{zero_below}
-use Rattle.fj_theory.proofs.Lead.{lead_coefficient-below, lead_coefficient-nonzero}
-use Rattle.fj_theory.proofs.Polynomial.{IsPolynomial-term}
 use Rattle.fj_groebner.proofs.Run.{of_all_pairs}
 use Rattle.fj_basis.specs.declared.members.Member.{Member}
 use Rattle.fj_basis.specs.declared.run.Run.{Run}

@@ -1,5 +1,5 @@
 //! The calculation of a reduced basis: the run, its finishing and its cofactors, and where it stops.
-ghost use Rattle.std.specs.Prelude.{◌≡◌, ◌≤◌, IfOk, length};
+ghost use Rattle.std.specs.Prelude.{◌≡◌, IfOk, length};
 ghost use Rattle.fj_groebner.specs.ReducedBasis.{IsReducedBasis};
 ghost use Rattle.fj_groebner.specs.Run.{TooHigh, Unfinished};
 ghost use Rattle.fj_plain.specs.OrderRow.{order_in_row};

@@ -1,14 +1,12 @@
+//! Rows of cofactors: zeros, one polynomial of the list, multiples and sums.
 ghost use Rattle.std.specs.Prelude.{◌≡◌, ◌<◌, IfOk, OnOk, All, length, map, replicate, set};
 ghost use Rattle.std.specs.FinMap.{empty};
 ghost use Rattle.fj_theory.specs.Exponents.{origin};
 ghost use Rattle.fj_theory.specs.Ideal.{ArePolynomials};
-ghost use Rattle.fj_theory.specs.Polynomial.{negation, product, term};
-ghost use Rattle.fj_groebner.specs.Division.{degree_limit};
-ghost use Rattle.fj_groebner.specs.Rows.{add_multiple, add_multiples};
+ghost use Rattle.fj_theory.specs.Polynomial.{product, term};
+ghost use Rattle.fj_groebner.specs.Rows.{add_multiple};
 ghost use Rattle.fj_poly.specs.Limit.{IsHigh};
 ghost use Rattle.fj_basis.specs.Outcome.{IsHighOnlyWhere};
-ghost use Rattle.fj_basis.specs.Quotients.{AreQuotientsWithin};
-ghost use Rattle.fj_basis.specs.Members.{IsRowWithin, sugared_members};
 
 use crate::members::Row;
 use fj_coeff::Coeff;

@@ -1,3 +1,5 @@
+//! The acts of finishing: superfluous members are left out, the others are replaced by their remainders, and the given list
+//! is divided by the result.
 ghost use Rattle.std.specs.Prelude.{◌≡◌, ◌≢◌, ◌+◌, ◌<◌, ◌≤◌, ◌++◌, true, ◌∷◌, ◌&&◌, ◌||◌, not, [], List, IfOk, OnOk, All, Any, Contains, length, map};
 ghost use Rattle.std.specs.List.{range_with_len};
 ghost use Rattle.std.specs.FinMap.{empty};

@@ -1,3 +1,4 @@
+//! Members of a run: what divides, with its sugar and its place.
 ghost use Rattle.std.specs.Prelude.{◌≡◌, ◌≢◌, IfOk, map};
 ghost use Rattle.std.specs.FinMap.{empty};
 ghost use Rattle.fj_theory.specs.Lead.{lead_exponents};

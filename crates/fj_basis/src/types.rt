@@ -1,3 +1,4 @@
+//! Reduced bases with their cofactors, and their certificates.
 ghost use Rattle.std.specs.Prelude.{◌≡◌, ◌<◌, IfOk, All, length, map};
 ghost use Rattle.fj_plain.specs.Holds.{Holds};
 ghost use Rattle.fj_plain.specs.OrderRow.{order_in_row};

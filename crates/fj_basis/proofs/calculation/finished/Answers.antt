@@ -1,4 +1,4 @@
-use Rattle.std.proofs.Common.{◌≡◌, length, map, Any, sym, ap, ◌∙◌, subst, subst₂}
+use Rattle.std.proofs.Common.{length, map, Any, sym, ap, ◌∙◌, subst, subst₂}
 use Rattle.std.proofs.lemmas.List.{length-map}
 use Rattle.std.proofs.lemmas.Result.{err_from_is_err_and}
 use Rattle.fj_groebner.specs.Division.{IsHighDivision}

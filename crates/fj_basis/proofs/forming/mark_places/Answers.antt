@@ -1,7 +1,7 @@
-use Rattle.std.proofs.Common.{IsTrue, All, sym, subst, arith}
+use Rattle.std.proofs.Common.{All, subst, arith}
 use Rattle.std.proofs.lemmas.List.{take_all}
 use Rattle.fj_basis.specs.Forming.{IsMarked}
-use Rattle.fj_basis.proofs.Marks.{MarkedUpTo-more, MarkedUpTo-none}
+use Rattle.fj_basis.proofs.Marks.{MarkedUpTo-none}
 use Rattle.fj_basis.proofs.forming.mark_places.Goals as goal
 
 pub loop-summand-init : goal.loop-summand-init

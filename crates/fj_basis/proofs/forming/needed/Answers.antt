@@ -1,4 +1,4 @@
-use Rattle.std.proofs.Common.{◌≡◌, ◌+◌, ◌-◌, length, sym, ap, ◌∙◌, subst, arith}
+use Rattle.std.proofs.Common.{◌+◌, ◌-◌, length, sym, ap, ◌∙◌, subst, arith}
 use Rattle.fj_basis.specs.Forming.{AreMarked, IsMarked, UsesBelow}
 use Rattle.fj_basis.proofs.Gathered.{whole-written}
 use Rattle.fj_basis.proofs.Marks.{ClosedFrom, closed-marked}

@@ -1,6 +1,5 @@
-use Rattle.std.proofs.Common.{◌≡◌, ◌+◌, ◌∷◌, [], List, false, length, length-append, map, take, sym, ap, ◌∙◌, subst, arith}
+use Rattle.std.proofs.Common.{◌≡◌, ◌+◌, ◌∷◌, [], false, length, length-append, map, take, sym, ap, ◌∙◌, subst, arith}
 use Rattle.std.proofs.lemmas.List.{drop-map, get_or_default, length-map, map-append}
-use Rattle.fj_theory.specs.Polynomial.{Polynomial}
 use Rattle.fj_groebner.specs.Division.{member_at}
 use Rattle.fj_basis.specs.Forming.{AreRowsFrom, CanBeFormed, IsMadeWithRows, IsMarked}
 use Rattle.fj_basis.specs.Members.{IsRowWithin}

@@ -6,7 +6,7 @@ use Rattle.fj_theory.specs.Exponents.{origin}
 use Rattle.fj_theory.specs.Ideal.{ArePolynomials}
 use Rattle.fj_theory.specs.Lead.{lead_coefficient}
 use Rattle.fj_theory.specs.Polynomial.{product, term}
-use Rattle.fj_groebner.specs.Division.{AreWithinSugars, DegreeAtMost, IsLowDivision, degree_limit, polynomials_of}
+use Rattle.fj_groebner.specs.Division.{AreWithinSugars, DegreeAtMost, IsLowDivision, polynomials_of}
 use Rattle.fj_groebner.specs.Run.{s_polynomial}
 use Rattle.fj_groebner.proofs.Division.{IsDivision-quotients}
 use Rattle.fj_theory.proofs.Lead.{lead_coefficient-nonzero}

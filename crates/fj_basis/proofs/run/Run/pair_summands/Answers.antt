@@ -1,7 +1,7 @@
-use Rattle.std.proofs.Common.{◌≡◌, ◌<◌, IsTrue, length, refl, ap, ap₂, ◌∙◌, sym, subst, subst₂, arith}
+use Rattle.std.proofs.Common.{IsTrue, ap, ap₂, ◌∙◌, sym, subst₂, arith}
 use Rattle.fj_theory.specs.Exponents.{divides, minus}
 use Rattle.fj_theory.specs.Polynomial.{term}
-use Rattle.fj_groebner.specs.Run.{lead_of, pair_multiple}
+use Rattle.fj_groebner.specs.Run.{lead_of}
 use Rattle.fj_basis.specs.Members.{sugared_members}
 use Rattle.fj_basis.proofs.Leading.{first-divides, multiple_is, nonzero_members, places, second-divides, some_multiple, state-good}
 use Rattle.fj_basis.proofs.run.Run.pair_summands.Goals as goal

@@ -4,7 +4,6 @@ use Rattle.fj_theory.specs.Polynomial.{term}
 use Rattle.fj_basis.specs.declared.history.Making.{Making}
 use Rattle.fj_basis.specs.declared.history.Source.TheVariants.{Combined}
 use Rattle.fj_basis.specs.History.{IsWithNegatives}
-use Rattle.fj_basis.specs.Members.{sugared_members}
 use Rattle.fj_basis.proofs.Leading.{state-good}
 use Rattle.fj_basis.proofs.NextMember.{all-sum, each-summand, next-IsMaking}
 use Rattle.fj_basis.proofs.run.Run.record.Goals as goal
