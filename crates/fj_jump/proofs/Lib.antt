@@ -1,0 +1,6 @@
+pub mod Bisection
+pub mod Chosen
+pub mod Count
+pub mod Found
+pub mod Settling
+pub mod Unit

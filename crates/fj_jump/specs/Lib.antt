@@ -1,0 +1,6 @@
+pub mod Chosen
+pub mod Count
+pub mod Limits
+pub mod Lists
+pub mod Rows
+pub mod Search
