@@ -27,6 +27,7 @@ use Rattle.fj_script.specs.declared.question.Question.{Question}
 use Rattle.fj_script.specs.declared.question.Question.TheVariants as questions
 use Rattle.fj_script.specs.declared.script.Env.{Env}
 use Rattle.fj_session.specs.declared.types.Answer.{Answer}
+use Rattle.fj_session.specs.declared.types.Answer.TheVariants as answers
 use Rattle.fj_session.specs.declared.types.Answer.TheVariants.{Parts, Ideal, Yes, No, StoppedPairs, StoppedHigh, Later}
 use Rattle.fj_session.specs.Answer.{AnswerUsesFirst, IsAnswer, RowUsesFirst}
 use Rattle.fj_session.specs.Meaning.{IsIdealAnswer}
@@ -150,6 +151,7 @@ module _ (env : Env) (asked : Asked) (one : AreOfOneSession env asked) where
   list_uses_first (questions.Same j k) is list h = absurd h
   list_uses_first (questions.IsJump f t) is list h = absurd h
   list_uses_first (questions.Regular f t) is list h = absurd h
+  list_uses_first (questions.Nu e f j) is list h = absurd h
   list_uses_first _ is list h = absurd h
 
   rows_of_question : (q : Question) → asked.question ≡ q → (rows : List PartRow) → (meaning_of (prime_field env.p) env asked.order q).answer (Parts rows) → All (RowUsesFirst (length env.vars)) rows
@@ -169,6 +171,7 @@ module _ (env : Env) (asked : Asked) (one : AreOfOneSession env asked) where
   rows_of_question (questions.Left f t) is rows h = absurd h
   rows_of_question (questions.IsJump f t) is rows h = absurd h
   rows_of_question (questions.Regular f t) is rows h = absurd h
+  rows_of_question (questions.Nu e f j) is rows h = absurd h
   rows_of_question _ is rows h = absurd h
 
   pub answer_uses_first : (a : Answer) → IsAnswer env asked a → AnswerUsesFirst (length env.vars) a
@@ -176,6 +179,9 @@ module _ (env : Env) (asked : Asked) (one : AreOfOneSession env asked) where
   answer_uses_first (Ideal list) h = list_uses_first asked.question refl list h
   answer_uses_first Yes h = tt
   answer_uses_first No h = tt
+  answer_uses_first (answers.Nu r) h = tt
+  answer_uses_first answers.NotIn h = tt
+  answer_uses_first answers.Unit h = tt
   answer_uses_first (StoppedPairs k) h = tt
   answer_uses_first (StoppedHigh k) h = tt
   answer_uses_first Later h = tt

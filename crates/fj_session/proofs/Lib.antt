@@ -10,3 +10,4 @@ pub mod Places
 pub mod Pieces
 pub mod Variables
 pub mod Verdicts
+pub mod Numbers

@@ -12,6 +12,7 @@ use Rattle.fj_script.specs.declared.script.Env.{Env}
 use Rattle.fj_session.specs.Meaning.{Meaning}
 use Rattle.fj_session.specs.Statement.{meaning_of}
 use Rattle.fj_session.specs.declared.types.Answer.{Answer}
+use Rattle.fj_session.specs.declared.types.Answer.TheVariants as answers
 use Rattle.fj_session.specs.declared.types.Answer.TheVariants.{Parts, Ideal, Yes, No, StoppedPairs, StoppedHigh, Later}
 use Rattle.fj_session.specs.declared.types.PartRow.{PartRow}
 
@@ -37,6 +38,9 @@ is_left (Parts rows) = false
 is_left (Ideal list) = false
 is_left Yes = false
 is_left No = false
+is_left (answers.Nu r) = false
+is_left answers.NotIn = false
+is_left answers.Unit = false
 is_left (StoppedPairs k) = true
 is_left (StoppedHigh k) = true
 is_left Later = true
@@ -52,6 +56,9 @@ AnswerUsesFirst n (Parts rows) = All (RowUsesFirst n) rows
 AnswerUsesFirst n (Ideal list) = All (λ h. UsesFirst n (polynomial h)) list
 AnswerUsesFirst n Yes = Unit {0}
 AnswerUsesFirst n No = Unit {0}
+AnswerUsesFirst n (answers.Nu r) = Unit {0}
+AnswerUsesFirst n answers.NotIn = Unit {0}
+AnswerUsesFirst n answers.Unit = Unit {0}
 AnswerUsesFirst n (StoppedPairs k) = Unit {0}
 AnswerUsesFirst n (StoppedHigh k) = Unit {0}
 AnswerUsesFirst n Later = Unit {0}

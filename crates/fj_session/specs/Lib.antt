@@ -1,6 +1,7 @@
 pub mod Meaning
 pub mod Ideals
 pub mod Limits
+pub mod Thresholds
 pub mod Statement
 pub mod Answer
 pub mod AnswerLaws

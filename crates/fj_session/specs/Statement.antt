@@ -8,6 +8,7 @@ use Rattle.fj_script.specs.declared.script.Env.{Env}
 use Rattle.fj_shell.specs.Named.{ideal_at, polynomial_at}
 use Rattle.fj_session.specs.Ideals.{meaning_of_basis, meaning_of_colon, meaning_of_meet, meaning_of_member, meaning_of_power, meaning_of_product, meaning_of_root, meaning_of_same, meaning_of_sum}
 use Rattle.fj_session.specs.Limits.{meaning_of_is_jump, meaning_of_left, meaning_of_regular, meaning_of_test}
+use Rattle.fj_session.specs.Thresholds.{meaning_of_nu}
 use Rattle.fj_session.specs.Meaning.{Meaning, meaning_of_later, meaning_of_parts}
 
 -- What the question means for this printing order.
@@ -26,4 +27,5 @@ meaning_of F env printing (questions.Test f t) = meaning_of_test F printing (pol
 meaning_of F env printing (questions.Left f t) = meaning_of_left F printing (polynomial_at env f) t
 meaning_of F env printing (questions.IsJump f t) = meaning_of_is_jump F (polynomial_at env f) t
 meaning_of F env printing (questions.Regular f t) = meaning_of_regular F (polynomial_at env f) t
+meaning_of F env printing (questions.Nu e f j) = meaning_of_nu F e (polynomial_at env f) (ideal_at env j)
 meaning_of F env printing _ = meaning_of_later

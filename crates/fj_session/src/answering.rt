@@ -10,6 +10,7 @@ use super::ideals::{are_same, colon, declared, is_member, meet, power, product, 
 use super::limits::{is_jump, is_regular, left, test};
 use super::part_rows::part_rows;
 use super::shown::{shown_basis, shown_kept};
+use super::thresholds::nu;
 use super::types::Answer;
 use fj_basis::Stop;
 use fj_coeff::{Coeff, OverField, over_prime_field};
@@ -29,6 +30,8 @@ use std::alloc::{AllocError, Global};
 /// - `test F t`, `left F t`: the test ideal of F^t, and the limit from the left of the test ideals of F at t, the same way.
 /// - `member F J`, `same J K`: whether F is in J, whether J and K are one ideal.
 /// - `isjump F t`, `regular F t`: whether t is an F-jumping number of F, whether 1 is in the test ideal of F^t.
+/// - `nu e F J`: the greatest r such that F^r isn't in the Frobenius power J^[q], q = p^e (Mustață, Takagi and Watanabe 2005);
+///   `Unit` exactly where J has 1, `NotIn` exactly where J is proper and F isn't in it.
 /// - Other questions are left for later.
 ///
 /// The question stops only where a run on one of its lists, which is kept with its order, makes all turns of the question's
@@ -123,6 +126,7 @@ fn found<K: Coeff>(alloc: Global, env: &Env, asked: &Asked) -> Result<Answer, St
         Question::Left { f, t } => printed(alloc, asked, left::<K>(alloc, env, budget, f, &t)),
         Question::IsJump { f, t } => judged(is_jump::<K>(alloc, env, budget, f, &t)),
         Question::Regular { f, t } => judged(is_regular::<K>(alloc, env, budget, f, &t)),
+        Question::Nu { e, f, j } => nu::<K>(alloc, env, budget, e, f, j),
         _ => Ok(Answer::Later),
     }
 }

@@ -9,6 +9,7 @@ mod part_rows;
 mod printing;
 mod program;
 mod shown;
+mod thresholds;
 pub mod types;
 
 pub use answering::answer;

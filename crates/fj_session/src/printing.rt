@@ -17,7 +17,7 @@ use std::alloc::{AllocError, Global};
 ///
 /// Each part has a line `k: part (a1,..,an) = h`, with the n exponents of its residue; where there is none, the line is
 /// `k: none`. An ideal has the line `k: (g1, g2, ..)`, or `k: (0)` where its basis is empty. The others have the lines
-/// `k: yes`, `k: no`, `k: stopped pairs`, `k: stopped high` and `k: later`.
+/// `k: nu r`, `k: notin`, `k: unit`, `k: yes`, `k: no`, `k: stopped pairs`, `k: stopped high` and `k: later`.
 ///
 /// Condition: nothing past the names occurs.
 pub fn print_answer(
@@ -35,6 +35,9 @@ pub fn print_answer(
         Answer::Ideal(list) => push_ideal(alloc, &mut out, vars, number, list)?,
         Answer::Yes => push_word(&mut out, number, b": yes\n")?,
         Answer::No => push_word(&mut out, number, b": no\n")?,
+        Answer::Nu(greatest) => push_nu(&mut out, number, *greatest)?,
+        Answer::NotIn => push_word(&mut out, number, b": notin\n")?,
+        Answer::Unit => push_word(&mut out, number, b": unit\n")?,
         Answer::StoppedPairs(_) => push_word(&mut out, number, b": stopped pairs\n")?,
         Answer::StoppedHigh(_) => push_word(&mut out, number, b": stopped high\n")?,
         Answer::Later => push_word(&mut out, number, b": later\n")?,
@@ -75,6 +78,16 @@ fn push_ideal(
 {
     push_word(out, number, b": ")?;
     out.extend_from_slice(&print_list(alloc, list, vars)?)?;
+    out.push(b'\n')?;
+    Ok(())
+}
+
+/// Appends the line of a number nu, for the question with this number.
+fn push_nu(out: &mut Vec<u8>, number: u32, nu: u64) -> Result<(), AllocError>
+    ensures { OnOk result (out.new.items ≡ out.old.items ++ (decimal number ++ codes ": nu " ++ decimal nu ++ codes "\n")) }
+{
+    push_word(out, number, b": nu ")?;
+    push_decimal(out, nu)?;
     out.push(b'\n')?;
     Ok(())
 }

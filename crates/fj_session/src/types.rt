@@ -61,6 +61,12 @@ pub enum Answer {
     Ideal(PlainList),
     Yes,
     No,
+    /// The number nu(e) of a polynomial at an ideal: the greatest r whose power of the polynomial isn't in the Frobenius power.
+    Nu(u64),
+    /// The polynomial isn't in the ideal, which is proper.
+    NotIn,
+    /// 1 is in the ideal.
+    Unit,
     /// The run on this list, which the question needs, made as many turns as its budget allows, and pairs are pending. The
     /// terms of the list fall in the printing order.
     StoppedPairs(Kept),

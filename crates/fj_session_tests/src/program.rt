@@ -127,7 +127,7 @@ static PARTS: [Row<'static>; 25] = [
         GO,
         b"ring 2 x\npoly f = x\nideal J = (x)\npoint P = (0)\nask fpure J P\nask parts 0 f\nask nu 1 f J\n",
         3,
-        b"1: later\n2: part (0) = x\n3: later\n",
+        b"1: later\n2: part (0) = x\n3: nu 1\n",
     ),
     (GO, b"", 2, b"fault NoRing at 1:1\n"),
     (
@@ -286,6 +286,29 @@ static LIMITS: [Row<'static>; 6] = [
     ),
 ];
 
+/// The numbers nu, and where there are none.
+static NUMBERS: [Row<'static>; 3] = [
+    (
+        GO,
+        b"ring 5 x, y\npoly f = x^2+y^3\nideal J = (x, y)\nask nu 0 f J\nask nu 1 f J\nask nu 2 f J\n",
+        0,
+        b"1: nu 0\n2: nu 3\n3: nu 19\n",
+    ),
+    (
+        GO,
+        b"ring 5 x\npoly f = x+1\nideal J = (1)\nideal K = (x)\nask nu 1 f J\nask nu 1 f K\n",
+        0,
+        b"1: unit\n2: notin\n",
+    ),
+    // The ideal is run as declared, with a turn for its pair.
+    (
+        GO,
+        b"ring 7 x, y, z\npoly f = x^2-y^3\nideal m = (x, y, z)\nideal J = (x^2+y, x*y+1)\nask nu 1 f m\nbudget 1\nask nu 1 f J\n",
+        3,
+        b"1: nu 5\n2: stopped pairs\n",
+    ),
+];
+
 /// A fault of each kind but Long.
 static FAULTS: [Row<'static>; 15] = [
     (GO, b"ring 4 x\n", 2, b"fault Prime at 1:6\n"),
@@ -407,6 +430,7 @@ fn answers_sessions(rt: HostRuntime) -> Result<(), Fail> {
     all_end(&rt, rt.alloc(), &IDEALS)?;
     all_end(&rt, rt.alloc(), &ELIMINATION)?;
     all_end(&rt, rt.alloc(), &LIMITS)?;
+    all_end(&rt, rt.alloc(), &NUMBERS)?;
     all_end(&rt, rt.alloc(), &FAULTS)
 }
 

@@ -205,6 +205,11 @@ is_jump_question env asked f t one is = exponent_at env asked true f t one (ques
 pub regular_question : (env : Env) (asked : Asked) (f : ℕ) (t : Fraction) → AreOfOneSession env asked → asked.question ≡ questions.Regular f t → IsNonconstantAt env f × IsExponent false t
 regular_question env asked f t one is = exponent_at env asked false f t one (question_known env asked (questions.Regular f t) one is)
 
+pub nu_question : (env : Env) (asked : Asked) (e f j : ℕ) → AreOfOneSession env asked → asked.question ≡ questions.Nu e f j → (e ≤ 12) × IsNonconstantAt env f × IsIdealAt env j
+nu_question env asked e f j one is =
+    let known = question_known env asked (questions.Nu e f j) one is in
+    (known.0, nonconstant_at env f (values_known env asked one) (prime_known env asked one) known.1, ideal_at env j (values_known env asked one) known.2)
+
 -- An e and an ideal.
 small_at : (env : Env) (e j : ℕ) → AreSoundValues env → (e ≤ 12) × NamesIdeal (seen_values env.values) j → (e ≤ 12) × IsIdealAt env j
 small_at env e j vs h = (h.0, ideal_at env j vs h.1)

@@ -2,9 +2,10 @@ use Rattle.std.proofs.Common.{◌≡◌, refl}
 use Rattle.std.proofs.lemmas.Result.{IfOk-weaker}
 use Rattle.fj_ideal.specs.Ideal.{IsIdealOf}
 use Rattle.fj_script.specs.declared.question.Question.TheVariants as questions
-use Rattle.fj_shell.specs.Named.{ideal_at}
-use Rattle.fj_shell.proofs.Known.{basis_question, colon_question, is_jump_question, left_question, meet_question, member_question, parts_question, power_question, product_question, regular_question, root_question, same_question, sum_question, test_question}
+use Rattle.fj_shell.specs.Named.{ideal_at, polynomial_at}
+use Rattle.fj_shell.proofs.Known.{basis_question, colon_question, is_jump_question, left_question, meet_question, member_question, nu_question, parts_question, power_question, product_question, regular_question, root_question, same_question, sum_question, test_question}
 use Rattle.fj_session.specs.Outcome.{IsIdealFor}
+use Rattle.fj_session.proofs.Numbers.{found_nu}
 use Rattle.fj_session.proofs.Printed.{declared_for, found_as, found_ideal, found_verdict}
 use Rattle.fj_session.proofs.answering.found.Goals as goal
 
@@ -149,3 +150,19 @@ is_regular-requires-clause-named g c = (regular_question c.args.env.now c.args.a
 
 pub is_regular-requires-clause-at_most : goal.is_regular-requires-clause-at_most
 is_regular-requires-clause-at_most g c = (regular_question c.args.env.now c.args.asked.now c.in-Regular.f c.in-Regular.t c.requires.session c.in-Regular.is).1.low
+
+pub nu-requires-clause-small : goal.nu-requires-clause-small
+nu-requires-clause-small g c = (nu_question c.args.env.now c.args.asked.now c.in-Nu.e c.in-Nu.f c.in-Nu.j c.requires.session c.in-Nu.is).0
+
+pub nu-requires-clause-named : goal.nu-requires-clause-named
+nu-requires-clause-named g c = (nu_question c.args.env.now c.args.asked.now c.in-Nu.e c.in-Nu.f c.in-Nu.j c.requires.session c.in-Nu.is).1
+
+pub nu-requires-clause-ideal : goal.nu-requires-clause-ideal
+nu-requires-clause-ideal g c = (nu_question c.args.env.now c.args.asked.now c.in-Nu.e c.in-Nu.f c.in-Nu.j c.requires.session c.in-Nu.is).2
+
+pub returns-in-Nu : goal.returns-in-Nu
+returns-in-Nu g c =
+    let f = polynomial_at c.args.env.now c.in-Nu.f in
+    let J = ideal_at c.args.env.now c.in-Nu.j in
+    found_as g.K.Coeff.field c.args.env.now c.args.asked.now (questions.Nu c.in-Nu.e c.in-Nu.f c.in-Nu.j) c.in-Nu.is c.nu.result
+    (found_nu g.K.Coeff.field c.in-Nu.e f J c.args.asked.now.order c.args.asked.now.budget c.nu.result c.nu.ensures.answer c.nu.ensures.stop)
