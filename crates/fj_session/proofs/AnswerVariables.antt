@@ -1,6 +1,6 @@
 -- Nothing past the variables of the ring occurs in an answer.
-use Rattle.std.proofs.Common.{◌≡◌, ℕ, ◌^◌, ◌++◌, List, [], ◌∷◌, length, map, All, sym, subst, refl, arith}
-use Rattle.std.proofs.lemmas.List.Elements.{All-cons, All-head, All-map, All-nil, All-tail}
+use Rattle.std.proofs.Common.{◌≡◌, ℕ, Bool, ◌^◌, ◌++◌, List, [], ◌∷◌, length, map, All, sym, subst, refl, arith}
+use Rattle.std.proofs.lemmas.List.Elements.{All-cons, All-head, All-map, All-nil, All-tail, All-weaker}
 use Rattle.fj_algebra.proofs.Lists.{All-map_back}
 use Rattle.fj_coeff.specs.Field.{Field, IsField}
 use Rattle.fj_coeff.specs.PrimeField.{prime_field}
@@ -29,14 +29,18 @@ use Rattle.fj_script.specs.declared.question.Question.{Question}
 use Rattle.fj_script.specs.declared.question.Question.TheVariants as questions
 use Rattle.fj_script.specs.declared.script.Env.{Env}
 use Rattle.fj_session.specs.declared.types.Answer.{Answer}
-use Rattle.fj_session.specs.declared.types.Answer.TheVariants.{Parts, Ideal, Yes, No, Off, StoppedPairs, StoppedHigh, Later}
-use Rattle.fj_session.specs.Answer.{AnswerUsesFirst, IsAnswer, RowUsesFirst}
+use Rattle.fj_session.specs.declared.types.Answer.TheVariants.{Parts, Ideal, Yes, No, Off, StoppedPairs, StoppedHigh}
+use Rattle.fj_session.specs.declared.types.Answer.TheVariants as answers
+use Rattle.fj_session.specs.Answer.{AnswerUsesFirst, IdealUsesFirst, IsAnswer, RowUsesFirst}
+use Rattle.fj_session.specs.Jumps.{ShowsTestIdeal}
 use Rattle.fj_session.specs.Meaning.{IsIdealAnswer}
 use Rattle.fj_shell.specs.Asked.{AreOfOneSession, IsIdealAt, IsNonconstantAt}
 use Rattle.fj_shell.specs.Named.{ideal_at, polynomial_at}
 use Rattle.fj_session.specs.Statement.{meaning_of}
 use Rattle.fj_session.specs.declared.types.PartRow.{PartRow}
-use Rattle.fj_shell.proofs.Known.{basis_question, colon_question, left_question, meet_question, parts_question, power_question, prime_known, product_question, root_question, split_question, sum_question, test_question}
+use Rattle.fj_session.specs.declared.types.ShownJump.{ShownJump}
+use Rattle.fj_jump.specs.declared.rows.GapRow.{GapRow}
+use Rattle.fj_shell.proofs.Known.{basis_question, colon_question, jumps_question, left_question, meet_question, parts_question, power_question, prime_known, product_question, root_question, split_question, sum_question, test_question}
 use Rattle.fj_session.proofs.Declared.{ideal_named, polynomial_named}
 use Rattle.fj_session.proofs.Printed.{key_of-IsMonomialOrder, polynomials_of_equal}
 use Rattle.fj_session.proofs.Variables.{rows_use_first}
@@ -164,7 +168,10 @@ module _ (env : Env) (asked : Asked) (one : AreOfOneSession env asked) where
   list_uses_first (questions.Pure j) is list h = absurd h
   list_uses_first (questions.PureAt j at) is list h = absurd h
   list_uses_first (questions.Compatible e u j) is list h = absurd h
-  list_uses_first _ is list h = absurd h
+  list_uses_first (questions.Nu e f j) is list h = absurd h
+  list_uses_first (questions.Jumps f e) is list h = absurd h
+  list_uses_first (questions.Threshold f j e) is list h = absurd h
+  list_uses_first (questions.ThresholdAt f at e) is list h = absurd h
 
   rows_of_question : (q : Question) → asked.question ≡ q → (rows : List PartRow) → (meaning_of (prime_field env.p) env asked.order q).answer (Parts rows) → All (RowUsesFirst (length env.vars)) rows
   rows_of_question (questions.Parts e f) is rows h =
@@ -187,7 +194,38 @@ module _ (env : Env) (asked : Asked) (one : AreOfOneSession env asked) where
   rows_of_question (questions.PureAt j at) is rows h = absurd h
   rows_of_question (questions.Split j) is rows h = absurd h
   rows_of_question (questions.Compatible e u j) is rows h = absurd h
-  rows_of_question _ is rows h = absurd h
+  rows_of_question (questions.Nu e f j) is rows h = absurd h
+  rows_of_question (questions.Jumps f e) is rows h = absurd h
+  rows_of_question (questions.Threshold f j e) is rows h = absurd h
+  rows_of_question (questions.ThresholdAt f at e) is rows h = absurd h
+
+  jumps_of_question : (q : Question) → asked.question ≡ q → (jumps : List ShownJump) (gaps : List GapRow) (complete : Bool) → (meaning_of (prime_field env.p) env asked.order q).answer (answers.Jumps jumps gaps complete)
+      → All (λ row. IdealUsesFirst (length env.vars) row.ideal) jumps
+  jumps_of_question (questions.Jumps f e) is jumps gaps complete h =
+      let N = (jumps_question env asked f e one is).0 in
+      All-weaker (ShowsTestIdeal (prime_field env.p) asked.order (polynomial_at env f)) (λ row. IdealUsesFirst (length env.vars) row.ideal)
+      (λ row s. shown_uses_first {IsAsked = IsTestIdeal (prime_field env.p) (polynomial_at env f) row.at} (λ M T. root_of_power f N T.start _ (T.root T.start (omega arith))) row.ideal s) jumps h.shown
+  jumps_of_question (questions.Parts e f) is jumps gaps complete h = absurd h
+  jumps_of_question (questions.Basis j) is jumps gaps complete h = absurd h
+  jumps_of_question (questions.Member f j) is jumps gaps complete h = absurd h
+  jumps_of_question (questions.Same j k) is jumps gaps complete h = absurd h
+  jumps_of_question (questions.Sum j k) is jumps gaps complete h = absurd h
+  jumps_of_question (questions.Product j k) is jumps gaps complete h = absurd h
+  jumps_of_question (questions.Meet j k) is jumps gaps complete h = absurd h
+  jumps_of_question (questions.Colon j k) is jumps gaps complete h = absurd h
+  jumps_of_question (questions.Power e j) is jumps gaps complete h = absurd h
+  jumps_of_question (questions.Root e j) is jumps gaps complete h = absurd h
+  jumps_of_question (questions.Test f t) is jumps gaps complete h = absurd h
+  jumps_of_question (questions.Left f t) is jumps gaps complete h = absurd h
+  jumps_of_question (questions.IsJump f t) is jumps gaps complete h = absurd h
+  jumps_of_question (questions.Regular f t) is jumps gaps complete h = absurd h
+  jumps_of_question (questions.Nu e f j) is jumps gaps complete h = absurd h
+  jumps_of_question (questions.Threshold f j e) is jumps gaps complete h = absurd h
+  jumps_of_question (questions.ThresholdAt f at e) is jumps gaps complete h = absurd h
+  jumps_of_question (questions.Pure j) is jumps gaps complete h = absurd h
+  jumps_of_question (questions.PureAt j at) is jumps gaps complete h = absurd h
+  jumps_of_question (questions.Split j) is jumps gaps complete h = absurd h
+  jumps_of_question (questions.Compatible e u j) is jumps gaps complete h = absurd h
 
   pub answer_uses_first : (a : Answer) → IsAnswer env asked a → AnswerUsesFirst (length env.vars) a
   answer_uses_first (Parts rows) h = rows_of_question asked.question refl rows h
@@ -195,6 +233,11 @@ module _ (env : Env) (asked : Asked) (one : AreOfOneSession env asked) where
   answer_uses_first Yes h = tt
   answer_uses_first No h = tt
   answer_uses_first Off h = tt
+  answer_uses_first (answers.Jumps jumps gaps complete) h = jumps_of_question asked.question refl jumps gaps complete h
+  answer_uses_first (answers.Nu r) h = tt
+  answer_uses_first (answers.At t) h = tt
+  answer_uses_first (answers.Between s t) h = tt
+  answer_uses_first answers.NotIn h = tt
+  answer_uses_first answers.Unit h = tt
   answer_uses_first (StoppedPairs k) h = tt
   answer_uses_first (StoppedHigh k) h = tt
-  answer_uses_first Later h = tt

@@ -10,3 +10,5 @@ pub mod Places
 pub mod Pieces
 pub mod Variables
 pub mod Verdicts
+pub mod Numbers
+pub mod JumpRows

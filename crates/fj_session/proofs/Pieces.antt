@@ -6,7 +6,7 @@ use Rattle.std.proofs.lemmas.List.Elements.{All-append, All-cons, All-nil}
 use Rattle.fj_text.proofs.Joined.{take_at}
 use Rattle.fj_script.specs.declared.question.Asked.{Asked}
 use Rattle.fj_script.specs.declared.script.Env.{Env}
-use Rattle.fj_session.specs.Answer.{IsAnswer, is_left}
+use Rattle.fj_session.specs.Answer.{IsAnswer, is_stopped}
 use Rattle.fj_session.specs.declared.types.Answer.{Answer}
 use Rattle.fj_shell.specs.Shell.{together}
 use Rattle.fj_shell.proofs.Pieces.{flat_push}
@@ -41,8 +41,8 @@ any_push f (y ∷ xs) x = ap (λ b. f y || b) (any_push f xs x) ∙ by (f y) (li
     by true b c = refl
     by false b c = refl
 
-pub status_push : (answered : List (Asked × Answer)) (q : Asked) (a : Answer) → status_of (answered ++ (q, a) ∷ []) ≡ cond (is_left a) 3 (status_of answered)
-status_push answered q a = ap (λ b. cond b 3 0) (any_push (λ x. is_left x.1) answered (q, a)) ∙ by (list_any (λ x. is_left x.1) answered) (is_left a)
+pub status_push : (answered : List (Asked × Answer)) (q : Asked) (a : Answer) → status_of (answered ++ (q, a) ∷ []) ≡ cond (is_stopped a) 3 (status_of answered)
+status_push answered q a = ap (λ b. cond b 3 0) (any_push (λ x. is_stopped x.1) answered (q, a)) ∙ by (list_any (λ x. is_stopped x.1) answered) (is_stopped a)
   where
     by : (b c : Bool) → ◌≡◌ {A = ℕ} (cond (b || c) 3 0) (cond c 3 (cond b 3 0))
     by true true = refl

@@ -1,8 +1,8 @@
 -- The answer to a question, as data.
-use Rattle.std.specs.Prelude.{◌≡◌, ◌⊎◌, ℕ, ◌≤◌, Bool, true, false, All, slice_index}
+use Rattle.std.specs.Prelude.{◌≡◌, ◌⊎◌, ℕ, ◌≤◌, Bool, true, false, List, All, slice_index}
 use Rattle.fj_coeff.specs.Field.{Field}
 use Rattle.fj_coeff.specs.PrimeField.{prime_field}
-use Rattle.fj_theory.specs.Plain.{polynomial}
+use Rattle.fj_theory.specs.Plain.{PlainPolynomial, polynomial}
 use Rattle.fj_theory.specs.PointIdeal.{UsesFirst}
 use Rattle.fj_plain.specs.declared.order_name.OrderName.{OrderName}
 use Rattle.fj_basis.specs.Outcome.{TermsFall}
@@ -12,7 +12,8 @@ use Rattle.fj_script.specs.declared.script.Env.{Env}
 use Rattle.fj_session.specs.Meaning.{Meaning}
 use Rattle.fj_session.specs.Statement.{meaning_of}
 use Rattle.fj_session.specs.declared.types.Answer.{Answer}
-use Rattle.fj_session.specs.declared.types.Answer.TheVariants.{Parts, Ideal, Yes, No, Off, StoppedPairs, StoppedHigh, Later}
+use Rattle.fj_session.specs.declared.types.Answer.TheVariants.{Parts, Ideal, Yes, No, Off, StoppedPairs, StoppedHigh}
+use Rattle.fj_session.specs.declared.types.Answer.TheVariants as answers
 use Rattle.fj_session.specs.declared.types.PartRow.{PartRow}
 
 -- What the answer to a question is. A question stops only where the run on one of its lists, which is kept, makes all turns
@@ -31,29 +32,42 @@ IsAnswerOver F env asked answer = IsAnswerTo F (meaning_of F env asked.order ask
 abbrev pub IsAnswer : Env → Asked → Answer → Type 0
 IsAnswer env asked answer = IsAnswerOver (prime_field env.p) env asked answer
 
--- The question isn't answered: it stopped, or is left for later.
-abbrev pub is_left : Answer → Bool
-is_left (Parts rows) = false
-is_left (Ideal list) = false
-is_left Yes = false
-is_left No = false
-is_left Off = false
-is_left (StoppedPairs k) = true
-is_left (StoppedHigh k) = true
-is_left Later = true
+-- The question stopped.
+abbrev pub is_stopped : Answer → Bool
+is_stopped (Parts rows) = false
+is_stopped (Ideal list) = false
+is_stopped Yes = false
+is_stopped No = false
+is_stopped Off = false
+is_stopped (answers.Jumps jumps gaps complete) = false
+is_stopped (answers.Nu r) = false
+is_stopped (answers.At t) = false
+is_stopped (answers.Between s t) = false
+is_stopped answers.NotIn = false
+is_stopped answers.Unit = false
+is_stopped (StoppedPairs k) = true
+is_stopped (StoppedHigh k) = true
 
 -- Past the first n variables the residue has zeros, and no other variable occurs in the part.
 pub record RowUsesFirst (n : ℕ) (row : PartRow) : Type 0 where
   pub residue : (i : ℕ) → n ≤ i → slice_index row.residue.exponents i ≡ 0
   pub part : UsesFirst n (polynomial row.poly)
 
+abbrev pub IdealUsesFirst : ℕ → List PlainPolynomial → Type 0
+IdealUsesFirst n list = All (λ h. UsesFirst n (polynomial h)) list
+
 -- Nothing past the first n variables is printed.
 abbrev pub AnswerUsesFirst : ℕ → Answer → Type 0
 AnswerUsesFirst n (Parts rows) = All (RowUsesFirst n) rows
-AnswerUsesFirst n (Ideal list) = All (λ h. UsesFirst n (polynomial h)) list
+AnswerUsesFirst n (Ideal list) = IdealUsesFirst n list
 AnswerUsesFirst n Yes = Unit {0}
 AnswerUsesFirst n No = Unit {0}
 AnswerUsesFirst n Off = Unit {0}
+AnswerUsesFirst n (answers.Jumps jumps gaps complete) = All (λ row. IdealUsesFirst n row.ideal) jumps
+AnswerUsesFirst n (answers.Nu r) = Unit {0}
+AnswerUsesFirst n (answers.At t) = Unit {0}
+AnswerUsesFirst n (answers.Between s t) = Unit {0}
+AnswerUsesFirst n answers.NotIn = Unit {0}
+AnswerUsesFirst n answers.Unit = Unit {0}
 AnswerUsesFirst n (StoppedPairs k) = Unit {0}
 AnswerUsesFirst n (StoppedHigh k) = Unit {0}
-AnswerUsesFirst n Later = Unit {0}

@@ -2,6 +2,8 @@ pub mod Meaning
 pub mod Ideals
 pub mod Limits
 pub mod Splittings
+pub mod Thresholds
+pub mod Jumps
 pub mod Statement
 pub mod Answer
 pub mod AnswerLaws

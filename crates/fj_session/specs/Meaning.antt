@@ -13,7 +13,7 @@ use Rattle.fj_ideal.specs.Lists.{NoList, NoProduct, RunFor}
 use Rattle.fj_ideal.specs.Stop.{key_of}
 use Rattle.fj_shell.specs.Named.{polynomials}
 use Rattle.fj_session.specs.declared.types.Answer.{Answer}
-use Rattle.fj_session.specs.declared.types.Answer.TheVariants.{Parts, Ideal, Yes, No, Later}
+use Rattle.fj_session.specs.declared.types.Answer.TheVariants.{Parts, Ideal, Yes, No}
 use Rattle.fj_session.specs.declared.types.PartRow.{PartRow}
 
 -- The answers that a question has, stops apart; the lists whose reduced bases it needs, each with the order of its run; and
@@ -79,11 +79,3 @@ IsVerdict P _ = ⊥
 -- A question whether P holds, which needs bases of these lists, each for its order.
 abbrev pub meaning_of_verdict : Type 0 → (OrderName → List Polynomial → Type 0) → (List Polynomial → Type 0) → Meaning
 meaning_of_verdict P IsList IsProduct = record { answer = IsVerdict P; lists = IsList; products = IsProduct }
-
-abbrev pub IsLater : Answer → Type 0
-IsLater Later = Unit {0}
-IsLater _ = ⊥
-
--- Questions of this kind are left for later.
-abbrev pub meaning_of_later : Meaning
-meaning_of_later = record { answer = IsLater; lists = NoList; products = NoProduct }

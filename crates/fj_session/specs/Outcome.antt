@@ -1,5 +1,5 @@
 -- What the calculation of the ideals of a question gives, and why it stops.
-use Rattle.std.specs.Prelude.{◌≡◌, ◌≢◌, ℕ, Bool, cond, List, Result, Ok, Err, IfOk}
+use Rattle.std.specs.Prelude.{◌≡◌, ◌≢◌, ℕ, Bool, cond, List, Contains, Result, Ok, Err, IfOk}
 use Rattle.std.specs.Result.{IsErrAnd}
 use Rattle.fj_coeff.specs.Field.{Field}
 use Rattle.fj_theory.specs.Ideal.{SameIdeal}
@@ -13,10 +13,12 @@ use Rattle.fj_basis.specs.declared.stop.Stop.{Stop}
 use Rattle.fj_ideal.specs.Ideal.{IsIdeal, WithBasis}
 use Rattle.fj_ideal.specs.Lists.{NoProduct, RunFor}
 use Rattle.fj_ideal.specs.Stop.{StopsOnlyWith, kept_list, key_of}
+use Rattle.fj_jump.specs.declared.rows.JumpRow.{JumpRow}
 use Rattle.fj_session.specs.Answer.{IsAnswerTo}
 use Rattle.fj_session.specs.Meaning.{IsShownBasis, Meaning}
 use Rattle.fj_session.specs.declared.types.Answer.{Answer}
 use Rattle.fj_session.specs.declared.types.Answer.TheVariants as answers
+use Rattle.fj_session.specs.declared.types.ShownJump.{ShownJump}
 
 -- J is an ideal that is asked for.
 pub record IsIdealFor (F : Field) (IsAsked : List Polynomial → Type 0) (J : WithBasis) : Type 0 where
@@ -60,3 +62,14 @@ pub record IsKeptAgain (key : List ℕ → List ℕ) (old new : Kept) : Type 0 w
   pub order : new.order ≡ old.order
   pub list : kept_list new ≡ kept_list old
   pub falling : TermsFall key new.list
+
+-- The row shows an F-jumping number that was found: the same number, and the reduced basis of its ideal for the order.
+pub record IsShownRow {K : Type 0} (F : Field) (printing : OrderName) (found : JumpRow K) (row : ShownJump) : Type 0 where
+  pub at : row.at ≡ found.at
+  pub ideal : IsShownBasis F (key_of printing) found.ideal.given row.ideal
+
+-- It shows one of these.
+pub record ShowsSomeRow {K : Type 0} (F : Field) (printing : OrderName) (all : List (JumpRow K)) (row : ShownJump) : Type 0 where
+  pub found : JumpRow K
+  pub among : Contains all found
+  pub shows : IsShownRow F printing found row

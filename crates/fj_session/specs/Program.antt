@@ -7,7 +7,7 @@ use Rattle.fj_script.specs.declared.question.Asked.{Asked}
 use Rattle.fj_script.specs.declared.script.Env.{Env}
 use Rattle.fj_script.specs.declared.script.Script.{Script}
 use Rattle.fj_script.specs.Script as session
-use Rattle.fj_session.specs.Answer.{IsAnswer, is_left}
+use Rattle.fj_session.specs.Answer.{IsAnswer, is_stopped}
 use Rattle.fj_shell.specs.Asked.{IsScriptOf}
 use Rattle.fj_shell.specs.Shell.{IsRead, fault_line}
 use Rattle.fj_session.specs.Text.{answer_bytes}
@@ -29,9 +29,9 @@ pub record AreAnswered (env : Env) (asked : List Asked) (answered : List (Asked 
 abbrev pub pieces_of : Env → List (Asked × Answer) → List (List ℕ)
 pieces_of env answered = map (λ a. answer_bytes env.vars a.0.number a.1) answered
 
--- 3 where a question stopped or is left for later, else 0.
+-- 3 where a question stopped, else 0.
 abbrev pub status_of : List (Asked × Answer) → ℕ
-status_of answered = if list_any (λ a. is_left a.1) answered then 3 else 0
+status_of answered = if list_any (λ a. is_stopped a.1) answered then 3 else 0
 
 -- The status and the pieces of a session of these bytes: the line of its fault, or the texts of its answers in order.
 abbrev pub IsOutcome : List ℕ → ℕ → List (List ℕ) → Type 0

@@ -1,5 +1,5 @@
 -- What each kind of question means.
-use Rattle.std.specs.Prelude.{◌^◌}
+use Rattle.std.specs.Prelude.{◌^◌, length}
 use Rattle.fj_coeff.specs.Field.{Field}
 use Rattle.fj_plain.specs.declared.order_name.OrderName.{OrderName}
 use Rattle.fj_script.specs.declared.question.Question.{Question}
@@ -7,8 +7,10 @@ use Rattle.fj_script.specs.declared.question.Question.TheVariants as questions
 use Rattle.fj_script.specs.declared.script.Env.{Env}
 use Rattle.fj_shell.specs.Named.{ideal_at, point_at, polynomial_at}
 use Rattle.fj_session.specs.Ideals.{meaning_of_basis, meaning_of_colon, meaning_of_meet, meaning_of_member, meaning_of_power, meaning_of_product, meaning_of_root, meaning_of_same, meaning_of_sum}
+use Rattle.fj_session.specs.Jumps.{meaning_of_jumps}
 use Rattle.fj_session.specs.Limits.{meaning_of_is_jump, meaning_of_left, meaning_of_regular, meaning_of_test}
-use Rattle.fj_session.specs.Meaning.{Meaning, meaning_of_later, meaning_of_parts}
+use Rattle.fj_session.specs.Thresholds.{meaning_of_nu, meaning_of_threshold, meaning_of_threshold_at}
+use Rattle.fj_session.specs.Meaning.{Meaning, meaning_of_parts}
 use Rattle.fj_session.specs.Splittings.{meaning_of_compatible, meaning_of_pure, meaning_of_pure_at, meaning_of_split}
 
 -- What the question means for this printing order.
@@ -27,8 +29,11 @@ meaning_of F env printing (questions.Test f t) = meaning_of_test F printing (pol
 meaning_of F env printing (questions.Left f t) = meaning_of_left F printing (polynomial_at env f) t
 meaning_of F env printing (questions.IsJump f t) = meaning_of_is_jump F (polynomial_at env f) t
 meaning_of F env printing (questions.Regular f t) = meaning_of_regular F (polynomial_at env f) t
+meaning_of F env printing (questions.Jumps f e) = meaning_of_jumps F printing (polynomial_at env f) e
+meaning_of F env printing (questions.Nu e f j) = meaning_of_nu F e (polynomial_at env f) (ideal_at env j)
+meaning_of F env printing (questions.Threshold f j e) = meaning_of_threshold F e (polynomial_at env f) (ideal_at env j)
+meaning_of F env printing (questions.ThresholdAt f at e) = meaning_of_threshold_at F e (polynomial_at env f) (length env.vars) (point_at env at)
 meaning_of F env printing (questions.Pure j) = meaning_of_pure F (ideal_at env j)
 meaning_of F env printing (questions.PureAt j at) = meaning_of_pure_at F (ideal_at env j) (point_at env at)
 meaning_of F env printing (questions.Split j) = meaning_of_split F printing (ideal_at env j)
 meaning_of F env printing (questions.Compatible e u j) = meaning_of_compatible F e (polynomial_at env u) (ideal_at env j)
-meaning_of F env printing _ = meaning_of_later

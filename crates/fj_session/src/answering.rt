@@ -7,10 +7,12 @@ ghost use Rattle.fj_session.specs.Outcome.{IsFound, IsJudged, IsPrinted};
 ghost use Rattle.fj_session.specs.Statement.{meaning_of};
 
 use super::ideals::{are_same, colon, declared, is_member, meet, power, product, root, sum};
+use super::jumps::jumps;
 use super::limits::{is_jump, is_regular, left, test};
 use super::part_rows::part_rows;
 use super::shown::{shown_basis, shown_kept};
 use super::splittings::{is_compatible, is_pure, is_pure_at, split};
+use super::thresholds::{nu, threshold, threshold_at};
 use super::types::Answer;
 use fj_basis::Stop;
 use fj_coeff::{Coeff, OverField, over_prime_field};
@@ -34,13 +36,20 @@ use std::alloc::{AllocError, Global};
 ///   whether it is so at the point P, and `Off` where P isn't a zero of J. `split J`: the root at 1 of J^[p] : J, by its
 ///   reduced basis for the printing order.
 /// - `compatible e U J`: whether J is compatible with U at e (Schwede 2009).
-/// - Other questions are left for later.
+/// - `jumps F E`: the F-jumping numbers of F among the candidates C_E, rising, each with its test ideal; the gaps between 0 and
+///   the candidates in which the test ideal changes, rising; and whether there is no such gap. Then the F-jumping numbers in
+///   (0, 1] are those of the list and no other.
+/// - `nu e F J`: the greatest r such that F^r isn't in the Frobenius power J^[q], q = p^e (Mustață, Takagi and Watanabe 2005);
+///   `Unit` exactly where J has 1, `NotIn` exactly where J is proper and F isn't in it.
+/// - `threshold F J E`: the F-threshold of F at J, the same way `Unit` or `NotIn`, else `At` where it is a candidate of C_E, and
+///   `Between` exactly where no candidate is the threshold, with the gap that has it inside. `threshold F P E`: that at the
+///   ideal of the point P, and `Off` where F isn't zero at P (Takagi and Watanabe 2004).
 ///
 /// The question stops only where a run on one of its lists, which is kept with its order, makes all turns of the question's
 /// budget and leaves pairs pending (`StoppedPairs`), or comes to a sugar above 2^40, or where a product of it has a term of a
 /// total degree above 2^40 (`StoppedHigh`; of a product its polynomials are kept). The lists are those that the question
 /// names, then the one of its ideal, made of reduced Grevlex bases, and last, where the printing order isn't Grevlex, the
-/// reduced Grevlex basis of the ideal that is printed. The terms of what is kept fall in the printing order.
+/// reduced Grevlex basis of each ideal that is printed. The terms of what is kept fall in the printing order.
 ///
 /// Nothing past the variables of the ring occurs in an answer that doesn't stop.
 ///
@@ -134,7 +143,10 @@ fn found<K: Coeff>(alloc: Global, env: &Env, asked: &Asked) -> Result<Answer, St
         Question::Compatible { e, u, j } => {
             judged(is_compatible::<K>(alloc, env, budget, e, u, j))
         }
-        _ => Ok(Answer::Later),
+        Question::Nu { e, f, j } => nu::<K>(alloc, env, budget, e, f, j),
+        Question::Jumps { f, e } => jumps::<K>(alloc, env, asked, f, e),
+        Question::Threshold { f, j, e } => threshold::<K>(alloc, env, budget, f, j, e),
+        Question::ThresholdAt { f, at, e } => threshold_at::<K>(alloc, env, budget, f, at, e),
     }
 }
 

@@ -3,6 +3,7 @@
 
 mod answering;
 mod ideals;
+mod jumps;
 pub mod laws;
 mod limits;
 mod part_rows;
@@ -11,6 +12,7 @@ mod printing;
 mod program;
 mod shown;
 mod splittings;
+mod thresholds;
 pub mod types;
 
 pub use answering::answer;

@@ -21,7 +21,11 @@ use fj_shell::polynomial_at;
 use std::alloc::{AllocError, Global};
 
 /// The polynomial of a name, which isn't constant.
-fn nonconstant<K: Coeff>(alloc: Global, env: &Env, f: u32) -> Result<GPoly<K>, AllocError>
+pub(crate) fn nonconstant<K: Coeff>(
+    alloc: Global,
+    env: &Env,
+    f: u32,
+) -> Result<GPoly<K>, AllocError>
     requires field { K.field ≡ prime_field env.now.p }
     requires named { IsNonconstantAt env.now f }
     ensures value { IfOk result (λ p. p ≡ polynomial_at env.now f) }

@@ -5,7 +5,7 @@ ghost use Rattle.fj_io.specs.Outside.{AppendsFront, Rose};
 ghost use Rattle.fj_script.specs.declared.question.Asked as question;
 ghost use Rattle.fj_shell.specs.Asked.{AreOfOneSession, IsScriptOf};
 ghost use Rattle.fj_shell.specs.Shell.{AppendsCut, IsRead, texts_of, together};
-ghost use Rattle.fj_session.specs.Answer.{IsAnswer, is_left};
+ghost use Rattle.fj_session.specs.Answer.{IsAnswer, is_stopped};
 ghost use Rattle.fj_session.specs.Program.{AreAnswered, AreFirstAnswers, AreFirstOfRun, AreRun, IsRun, pieces_of, status_of};
 ghost use Rattle.fj_session.specs.Text.{answer_bytes};
 ghost use Rattle.fj_session.specs.declared.types.Answer as types;
@@ -15,7 +15,7 @@ use super::printing::print_answer;
 use super::types::Answer;
 use fj_io::{Sink, Source};
 use fj_script::{Asked, Env, Script};
-use fj_shell::status::{ANSWERED, LEFT, NO_MEMORY, READ_FAILED, USAGE, WRITE_FAILED};
+use fj_shell::status::{ANSWERED, NO_MEMORY, READ_FAILED, STOPPED, USAGE, WRITE_FAILED};
 use fj_shell::{Unread, Unwritten, read_whole_script, write_fault, write_text};
 use std::alloc::Global;
 
@@ -26,7 +26,7 @@ fn are_run(words: &[&str]) -> bool
     words.len() == 1 && words[0] == "run"
 }
 
-/// Answers a question, hands its text to the sink, and tells whether it stopped or is left for later.
+/// Answers a question, hands its text to the sink, and tells whether it stopped.
 fn answer_one<K: Sink>(
     alloc: Global,
     env: &Env,
@@ -34,7 +34,7 @@ fn answer_one<K: Sink>(
     sink: &mut K,
 ) -> Result<bool, Unwritten>
     requires { AreOfOneSession env.now asked.now }
-    ensures answered { IfOk result (λ left. (a : types.Answer) × IsAnswer env.now asked.now a × (left ≡ is_left a)
+    ensures answered { IfOk result (λ stopped. (a : types.Answer) × IsAnswer env.now asked.now a × (stopped ≡ is_stopped a)
         × Appends (K.taken sink.old) (K.taken sink.new) (answer_bytes env.now.vars asked.now.number a)) }
     ensures failed { IsErrOf result Unwritten.WriteFailed → Rose (K.faults sink.old) (K.faults sink.new)
         × ((a : types.Answer) × IsAnswer env.now asked.now a
@@ -45,24 +45,21 @@ fn answer_one<K: Sink>(
     let answer = answer(alloc, env, asked)?;
     let text = print_answer(alloc, &env.vars, asked.number, &answer)?;
     sink.write_all(&text)?;
-    Ok(is_left(&answer))
+    Ok(is_stopped(&answer))
 }
 
-/// Whether a question stopped or is left for later.
-fn is_left(answer: &Answer) -> bool
-    ensures { result ≡ is_left answer.now }
+/// Whether a question stopped.
+fn is_stopped(answer: &Answer) -> bool
+    ensures { result ≡ is_stopped answer.now }
 {
-    matches!(
-        answer,
-        Answer::StoppedPairs(_) | Answer::StoppedHigh(_) | Answer::Later
-    )
+    matches!(answer, Answer::StoppedPairs(_) | Answer::StoppedHigh(_))
 }
 
 /// The status after one more answer.
-fn status_after(status: u8, is_left: bool) -> u8
-    ensures { result ≡ (if is_left then 3 else status) }
+fn status_after(status: u8, is_stopped: bool) -> u8
+    ensures { result ≡ (if is_stopped then 3 else status) }
 {
-    if is_left { LEFT } else { status }
+    if is_stopped { STOPPED } else { status }
 }
 
 /// Answers the questions of a session, hands each text to the sink, and answers the status.
@@ -83,12 +80,12 @@ fn answer_all<K: Sink>(alloc: Global, script: &Script, sink: &mut K) -> u8
 {
     let mut status = ANSWERED;
     for i in 0..script.asked.len() {
-        let is_left = match answer_one(alloc, &script.env, script.asked.get(i), sink) {
-            Ok(is_left) => is_left,
+        let is_stopped = match answer_one(alloc, &script.env, script.asked.get(i), sink) {
+            Ok(is_stopped) => is_stopped,
             Err(Unwritten::WriteFailed) => return WRITE_FAILED,
             Err(Unwritten::NoMemory) => return NO_MEMORY,
         };
-        status = status_after(status, is_left);
+        status = status_after(status, is_stopped);
     }
     status
 }
@@ -102,7 +99,7 @@ fn answer_all<K: Sink>(alloc: Global, script: &Script, sink: &mut K) -> u8
 /// - 0: the session has no fault, all questions were answered, and the answers were written.
 /// - 1: the words aren't `run` alone, and the usage line was written. The source isn't read.
 /// - 2: the session has a fault, and its line was written.
-/// - 3: the session has no fault, some questions stopped or are left for later, and the answers were written.
+/// - 3: the session has no fault, some questions stopped, and the answers were written.
 /// - 4: a read failed. Nothing was written.
 /// - 5: a write failed. The texts before it and a front of its own were written.
 /// - 6: memory was wanting. Either there was no room for the session, and nothing was read or written; or the session was

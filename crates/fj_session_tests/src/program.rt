@@ -24,7 +24,7 @@ const CUSP: &[u8] =
 
 const CUSP_ANSWERS: &[u8] = b"1: (y, x)\n2: (1)\n3: yes\n4: no\n5: yes\n6: no\n";
 
-/// Parts, what is left for later, and what the words of the command line are.
+/// Parts, and what the words of the command line are.
 static PARTS: [Row<'static>; 25] = [
     (GO, SESSION_A, 0, OUTPUT_A),
     (
@@ -116,18 +116,19 @@ static PARTS: [Row<'static>; 25] = [
         0,
         b"1: part (0) = 4*x+4\n",
     ),
-    // Questions that are left for later.
+    // A polynomial isn't a generator.
     (
         GO,
         b"ring 2 x\npoly f = x\nideal J = (f, x)\n",
         2,
         b"fault Kind at 3:12\n",
     ),
+    // Questions of three kinds.
     (
         GO,
         b"ring 2 x\npoly f = x\nideal J = (x)\npoint P = (0)\nask threshold f P 1\nask parts 0 f\nask nu 1 f J\n",
-        3,
-        b"1: later\n2: part (0) = x\n3: later\n",
+        0,
+        b"1: threshold 1\n2: part (0) = x\n3: nu 1\n",
     ),
     (GO, b"", 2, b"fault NoRing at 1:1\n"),
     (
@@ -347,6 +348,115 @@ static SPLITTINGS: [Row<'static>; 9] = [
     ),
 ];
 
+/// The numbers nu, and where there are none.
+static NUMBERS: [Row<'static>; 3] = [
+    (
+        GO,
+        b"ring 5 x, y\npoly f = x^2+y^3\nideal J = (x, y)\nask nu 0 f J\nask nu 1 f J\nask nu 2 f J\n",
+        0,
+        b"1: nu 0\n2: nu 3\n3: nu 19\n",
+    ),
+    (
+        GO,
+        b"ring 5 x\npoly f = x+1\nideal J = (1)\nideal K = (x)\nask nu 1 f J\nask nu 1 f K\n",
+        0,
+        b"1: unit\n2: notin\n",
+    ),
+    // The ideal is run as declared, with a turn for its pair.
+    (
+        GO,
+        b"ring 7 x, y, z\npoly f = x^2-y^3\nideal m = (x, y, z)\nideal J = (x^2+y, x*y+1)\nask nu 1 f m\nbudget 1\nask nu 1 f J\n",
+        3,
+        b"1: nu 5\n2: stopped pairs\n",
+    ),
+];
+
+/// Thresholds at points and at ideals, and where there are none.
+static THRESHOLDS: [Row<'static>; 5] = [
+    (
+        GO,
+        b"ring 5 x, y, z\npoly f = x^3+y^3+z^3\npoint O = (0, 0, 0)\nask threshold f O 1\nask threshold f O 2\n",
+        0,
+        b"1: between 3/4 and 1\n2: threshold 4/5\n",
+    ),
+    (
+        GO,
+        b"ring 5 x\npoly f = x+1\npoint P = (0)\nideal J = (1)\nideal K = (x)\nask threshold f P 1\nask threshold f J 1\nask threshold f K 1\n",
+        0,
+        b"1: off\n2: unit\n3: notin\n",
+    ),
+    // A cusp at the origin, as a point and as an ideal.
+    (
+        GO,
+        b"ring 11 x, y\npoly f = x^2+y^3\npoint O = (0, 0)\nideal m = (x, y)\nask threshold f O 2\nask threshold f m 2\n",
+        0,
+        b"1: threshold 9/11\n2: threshold 9/11\n",
+    ),
+    // Another point, and an ideal of two points.
+    (
+        GO,
+        b"ring 3 x\npoly f = x^3-x\npoint P = (2)\nideal J = (x^2)\nideal K = (x^2-1)\nask threshold f P 1\nask threshold f J 1\nask threshold f K 1\n",
+        0,
+        b"1: threshold 1\n2: notin\n3: threshold 1\n",
+    ),
+    // The ideal is run as declared.
+    (
+        GO,
+        b"ring 2 x, y\npoly f = x\nideal J = (x^2+y, x*y+1)\nideal K = (x)\nbudget 1\nask threshold f J 1\nask threshold f K 1\n",
+        3,
+        b"1: stopped pairs\n2: threshold 1\n",
+    ),
+];
+
+/// F-jumping numbers, in each printing order, and what stops.
+static JUMPS: [Row<'static>; 7] = [
+    (
+        GO,
+        b"ring 2 x, y\npoly f = x^2+y^3\nask jumps f 2\n",
+        0,
+        b"1: jump 1/2 = (y, x)\n1: jump 1 = (y^3+x^2)\n1: complete\n",
+    ),
+    (
+        GO,
+        b"ring 7 x, y\npoly f = x^2+y^3\nask jumps f 1\n",
+        0,
+        b"1: jump 5/6 = (y, x)\n1: jump 1 = (y^3+x^2)\n1: complete\n",
+    ),
+    (
+        GO,
+        b"ring 2 x\npoly f = x^5\nask jumps f 2\nask jumps f 4\n",
+        0,
+        b"1: jump 1 = (x^5)\n1: open (0, 1/3)\n1: open (1/3, 1/2)\n1: open (1/2, 2/3)\n1: open (2/3, 1)\n1: incomplete\n2: jump 1/5 = (x)\n2: jump 2/5 = (x^2)\n2: jump 3/5 = (x^3)\n2: jump 4/5 = (x^4)\n2: jump 1 = (x^5)\n2: complete\n",
+    ),
+    (
+        GO,
+        b"ring 3 x, y, z\npoly f = (x+y+z)^3\nask jumps f 2\n",
+        0,
+        b"1: jump 1/3 = (x+y+z)\n1: jump 2/3 = (x^2+2*x*y+y^2+2*x*z+2*y*z+z^2)\n1: jump 1 = (x^3+y^3+z^3)\n1: complete\n",
+    ),
+    // Of 925,468 candidates one is asked for.
+    (
+        GO,
+        b"ring 2 x\npoly f = x\nask jumps f 16\n",
+        0,
+        b"1: jump 1 = (x)\n1: complete\n",
+    ),
+    // The reduced bases for the printing order.
+    (
+        GO,
+        b"ring 3 x, y, z\npoly f = x*z+y^2\nask jumps f 1\norder lex\nask jumps f 1\n",
+        0,
+        b"1: jump 1 = (y^2+x*z)\n1: complete\n2: jump 1 = (x*z+y^2)\n2: complete\n",
+    ),
+    // The parts x, y, z make three pairs.
+    (
+        GO,
+        b"ring 2 a, b, c, x, y, z\npoly f = a*x^2+b*y^2+c*z^2\nbudget 1\nask jumps f 1\nbudget 100\nask jumps f 1\n",
+        3,
+        b"1: stopped pairs\n2: jump 1 = (a*x^2+b*y^2+c*z^2)\n2: open (0, 1)\n2: incomplete\n",
+    ),
+];
+
 /// A fault of each kind but Long.
 static FAULTS: [Row<'static>; 15] = [
     (GO, b"ring 4 x\n", 2, b"fault Prime at 1:6\n"),
@@ -469,6 +579,9 @@ fn answers_sessions(rt: HostRuntime) -> Result<(), Fail> {
     all_end(&rt, rt.alloc(), &ELIMINATION)?;
     all_end(&rt, rt.alloc(), &LIMITS)?;
     all_end(&rt, rt.alloc(), &SPLITTINGS)?;
+    all_end(&rt, rt.alloc(), &NUMBERS)?;
+    all_end(&rt, rt.alloc(), &THRESHOLDS)?;
+    all_end(&rt, rt.alloc(), &JUMPS)?;
     all_end(&rt, rt.alloc(), &FAULTS)
 }
 

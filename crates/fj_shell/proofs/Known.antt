@@ -20,7 +20,7 @@ use Rattle.fj_script.specs.declared.value.Value.TheVariants as values
 use Rattle.fj_script.specs.Seen.{seen, seen_values}
 use Rattle.fj_script.specs.Session.{Terms, Value, Poly, Ideal, Point, is_nonconstant}
 use Rattle.fj_script.proofs.Accepted.{accepted_sound}
-use Rattle.fj_script.proofs.AcceptedArguments.{IsExponent, IsSoundQuestion, NamesIdeal, NamesNonconstant, NamesPoint, NamesPoly, is_ideal, is_nonconstant_poly, is_point, is_poly}
+use Rattle.fj_script.proofs.AcceptedArguments.{IsExponent, IsLevel, IsSoundQuestion, NamesIdeal, NamesNonconstant, NamesPoint, NamesPoly, is_ideal, is_nonconstant_poly, is_point, is_poly}
 use Rattle.fj_script.proofs.AcceptedDeclarations.{AreSound, IsSoundAsked, IsSoundValue}
 use Rattle.fj_shell.specs.Asked.{AreOfOneSession, IsIdealAt, IsNonconstantAt, IsPartsQuestion, IsPointAt, IsPolyAt}
 use Rattle.fj_shell.proofs.Nonconstant.{has_small_degree}
@@ -215,6 +215,29 @@ is_jump_question env asked f t one is = exponent_at env asked true f t one (ques
 
 pub regular_question : (env : Env) (asked : Asked) (f : ℕ) (t : Fraction) → AreOfOneSession env asked → asked.question ≡ questions.Regular f t → IsNonconstantAt env f × IsExponent false t
 regular_question env asked f t one is = exponent_at env asked false f t one (question_known env asked (questions.Regular f t) one is)
+
+pub nu_question : (env : Env) (asked : Asked) (e f j : ℕ) → AreOfOneSession env asked → asked.question ≡ questions.Nu e f j → (e ≤ 12) × IsNonconstantAt env f × IsIdealAt env j
+nu_question env asked e f j one is =
+    let known = question_known env asked (questions.Nu e f j) one is in
+    (known.0, nonconstant_at env f (values_known env asked one) (prime_known env asked one) known.1, ideal_at env j (values_known env asked one) known.2)
+
+-- A polynomial that isn't constant, and an E.
+pub jumps_question : (env : Env) (asked : Asked) (f e : ℕ) → AreOfOneSession env asked → asked.question ≡ questions.Jumps f e → IsNonconstantAt env f × IsLevel env.p e
+jumps_question env asked f e one is =
+    let known = question_known env asked (questions.Jumps f e) one is in
+    (nonconstant_at env f (values_known env asked one) (prime_known env asked one) known.0, known.1)
+
+pub threshold_question : (env : Env) (asked : Asked) (f j e : ℕ) → AreOfOneSession env asked → asked.question ≡ questions.Threshold f j e → IsNonconstantAt env f × IsIdealAt env j × IsLevel env.p e
+threshold_question env asked f j e one is =
+    let known = question_known env asked (questions.Threshold f j e) one is in
+    let vs = values_known env asked one in
+    (nonconstant_at env f vs (prime_known env asked one) known.0, ideal_at env j vs known.1, known.2)
+
+pub threshold_at_question : (env : Env) (asked : Asked) (f at e : ℕ) → AreOfOneSession env asked → asked.question ≡ questions.ThresholdAt f at e → IsNonconstantAt env f × IsPointAt env at × IsLevel env.p e
+threshold_at_question env asked f at e one is =
+    let known = question_known env asked (questions.ThresholdAt f at e) one is in
+    let vs = values_known env asked one in
+    (nonconstant_at env f vs (prime_known env asked one) known.0, point_at env at vs known.1, known.2)
 
 -- An e and an ideal.
 small_at : (env : Env) (e j : ℕ) → AreSoundValues env → (e ≤ 12) × NamesIdeal (seen_values env.values) j → (e ≤ 12) × IsIdealAt env j

@@ -9,8 +9,8 @@ pub const USAGE: u8 = 1;
 /// The line of a fault was written.
 pub const FAULT: u8 = 2;
 
-/// Some questions stopped, or are left for later.
-pub const LEFT: u8 = 3;
+/// Some questions stopped.
+pub const STOPPED: u8 = 3;
 
 /// A read failed.
 pub const READ_FAILED: u8 = 4;

@@ -1,11 +1,19 @@
-use Rattle.std.proofs.Common.{◌≡◌, refl}
+use Rattle.std.proofs.Common.{◌≡◌, ◌≤◌, ◌^◌, ◌∙◌, ℕ, List, length, ap, subst, sym, refl}
 use Rattle.std.proofs.lemmas.Result.{IfOk-weaker}
+use Rattle.fj_coeff.specs.Field.{Field}
+use Rattle.fj_plain.specs.declared.order_name.OrderName.TheVariants.{Grevlex}
 use Rattle.fj_ideal.specs.Ideal.{IsIdealOf}
+use Rattle.fj_ideal.specs.Lists.{RunFor}
 use Rattle.fj_script.specs.declared.question.Question.TheVariants as questions
-use Rattle.fj_shell.specs.Named.{ideal_at}
-use Rattle.fj_shell.proofs.Known.{basis_question, colon_question, compatible_question, is_jump_question, left_question, meet_question, member_question, parts_question, power_question, product_question, pure_at_question, pure_question, regular_question, root_question, same_question, split_question, sum_question, test_question}
+use Rattle.fj_shell.specs.Named.{ideal_at, point_at, polynomial_at}
+use Rattle.fj_shell.proofs.Known.{basis_question, colon_question, compatible_question, is_jump_question, jumps_question, left_question, meet_question, member_question, nu_question, parts_question, power_question, product_question, pure_at_question, pure_question, regular_question, root_question, same_question, split_question, sum_question, test_question, threshold_at_question, threshold_question}
 use Rattle.fj_session.specs.Outcome.{IsIdealFor}
 use Rattle.fj_session.proofs.Printed.{declared_for, found_as, found_ideal, found_purity, found_verdict}
+use Rattle.fj_thresh.specs.Answer.{IsPointAnswer, IsThresholdAnswer}
+use Rattle.fj_thresh.specs.Lists.{IsHighInPointThreshold, IsHighInThreshold, IsPointThresholdList}
+use Rattle.fj_session.specs.Thresholds.{IsListOfThreshold}
+use Rattle.fj_session.proofs.JumpRows.{found_jumps}
+use Rattle.fj_session.proofs.Numbers.{found_nu, found_threshold}
 use Rattle.fj_session.proofs.answering.found.Goals as goal
 
 pub polynomial_at-f-requires : goal.polynomial_at-f-requires
@@ -190,3 +198,83 @@ pub returns-in-Compatible : goal.returns-in-Compatible
 returns-in-Compatible g c =
     found_as g.K.Coeff.field c.args.env.now c.args.asked.now (questions.Compatible c.in-Compatible.e c.in-Compatible.u c.in-Compatible.j) c.in-Compatible.is c.judged-in-Compatible.result
     (found_verdict _ _ _ _ _ _ c.is_compatible.result c.judged-in-Compatible.result c.judged-in-Compatible.ensures c.is_compatible.ensures.verdict c.is_compatible.ensures.stop)
+
+pub nu-requires-clause-small : goal.nu-requires-clause-small
+nu-requires-clause-small g c = (nu_question c.args.env.now c.args.asked.now c.in-Nu.e c.in-Nu.f c.in-Nu.j c.requires.session c.in-Nu.is).0
+
+pub nu-requires-clause-named : goal.nu-requires-clause-named
+nu-requires-clause-named g c = (nu_question c.args.env.now c.args.asked.now c.in-Nu.e c.in-Nu.f c.in-Nu.j c.requires.session c.in-Nu.is).1
+
+pub nu-requires-clause-ideal : goal.nu-requires-clause-ideal
+nu-requires-clause-ideal g c = (nu_question c.args.env.now c.args.asked.now c.in-Nu.e c.in-Nu.f c.in-Nu.j c.requires.session c.in-Nu.is).2
+
+pub returns-in-Nu : goal.returns-in-Nu
+returns-in-Nu g c =
+    let f = polynomial_at c.args.env.now c.in-Nu.f in
+    let J = ideal_at c.args.env.now c.in-Nu.j in
+    found_as g.K.Coeff.field c.args.env.now c.args.asked.now (questions.Nu c.in-Nu.e c.in-Nu.f c.in-Nu.j) c.in-Nu.is c.nu.result
+    (found_nu g.K.Coeff.field c.in-Nu.e f J c.args.asked.now.order c.args.asked.now.budget c.nu.result c.nu.ensures.answer c.nu.ensures.stop)
+
+-- The limit of E, over the field of the session.
+small_level : {P p : ℕ} (e : ℕ) → P ≡ p → p ^ e ≤ 65536 → P ^ e ≤ 65536
+small_level e is low = subst (λ n. n ^ e ≤ 65536) (sym is) low
+
+pub jumps-requires-clause-named : goal.jumps-requires-clause-named
+jumps-requires-clause-named g c = (jumps_question c.args.env.now c.args.asked.now c.in-Jumps.f c.in-Jumps.e c.requires.session c.in-Jumps.is).0
+
+pub jumps-requires-clause-positive : goal.jumps-requires-clause-positive
+jumps-requires-clause-positive g c = (jumps_question c.args.env.now c.args.asked.now c.in-Jumps.f c.in-Jumps.e c.requires.session c.in-Jumps.is).1.positive
+
+pub jumps-requires-clause-small : goal.jumps-requires-clause-small
+jumps-requires-clause-small g c = small_level c.in-Jumps.e (g.met.K.Coeff.characteristic_is ∙ ap (λ (F : Field). F.characteristic) c.requires.field) (jumps_question c.args.env.now c.args.asked.now c.in-Jumps.f c.in-Jumps.e c.requires.session c.in-Jumps.is).1.low
+
+pub returns-in-Jumps : goal.returns-in-Jumps
+returns-in-Jumps g c =
+    let asked = c.args.asked.now in
+    found_as g.K.Coeff.field c.args.env.now asked (questions.Jumps c.in-Jumps.f c.in-Jumps.e) c.in-Jumps.is c.jumps.result
+    (found_jumps g.K.Coeff.field asked.order (polynomial_at c.args.env.now c.in-Jumps.f) c.in-Jumps.e asked.budget c.jumps.result c.jumps.ensures.answer c.jumps.ensures.stop)
+
+pub threshold-requires-clause-named : goal.threshold-requires-clause-named
+threshold-requires-clause-named g c = (threshold_question c.args.env.now c.args.asked.now c.in-Threshold.f c.in-Threshold.j c.in-Threshold.e c.requires.session c.in-Threshold.is).0
+
+pub threshold-requires-clause-ideal : goal.threshold-requires-clause-ideal
+threshold-requires-clause-ideal g c = (threshold_question c.args.env.now c.args.asked.now c.in-Threshold.f c.in-Threshold.j c.in-Threshold.e c.requires.session c.in-Threshold.is).1
+
+pub threshold-requires-clause-positive : goal.threshold-requires-clause-positive
+threshold-requires-clause-positive g c = (threshold_question c.args.env.now c.args.asked.now c.in-Threshold.f c.in-Threshold.j c.in-Threshold.e c.requires.session c.in-Threshold.is).2.positive
+
+pub threshold-requires-clause-small : goal.threshold-requires-clause-small
+threshold-requires-clause-small g c = small_level c.in-Threshold.e (g.met.K.Coeff.characteristic_is ∙ ap (λ (F : Field). F.characteristic) c.requires.field) (threshold_question c.args.env.now c.args.asked.now c.in-Threshold.f c.in-Threshold.j c.in-Threshold.e c.requires.session c.in-Threshold.is).2.low
+
+pub returns-in-Threshold : goal.returns-in-Threshold
+returns-in-Threshold g c =
+    let F = g.K.Coeff.field in
+    let asked = c.args.asked.now in
+    let e = c.in-Threshold.e in
+    let f = polynomial_at c.args.env.now c.in-Threshold.f in
+    let J = ideal_at c.args.env.now c.in-Threshold.j in
+    found_as F c.args.env.now asked (questions.Threshold c.in-Threshold.f c.in-Threshold.j e) c.in-Threshold.is c.threshold.result
+    (found_threshold (IsThresholdAnswer F e f J) F (RunFor Grevlex (IsListOfThreshold F e f J)) (IsHighInThreshold F e f J) asked.order asked.budget c.threshold.result c.threshold.ensures.answer c.threshold.ensures.stop)
+
+pub threshold_at-requires-clause-named : goal.threshold_at-requires-clause-named
+threshold_at-requires-clause-named g c = (threshold_at_question c.args.env.now c.args.asked.now c.in-ThresholdAt.f c.in-ThresholdAt.at c.in-ThresholdAt.e c.requires.session c.in-ThresholdAt.is).0
+
+pub threshold_at-requires-clause-point : goal.threshold_at-requires-clause-point
+threshold_at-requires-clause-point g c = (threshold_at_question c.args.env.now c.args.asked.now c.in-ThresholdAt.f c.in-ThresholdAt.at c.in-ThresholdAt.e c.requires.session c.in-ThresholdAt.is).1
+
+pub threshold_at-requires-clause-positive : goal.threshold_at-requires-clause-positive
+threshold_at-requires-clause-positive g c = (threshold_at_question c.args.env.now c.args.asked.now c.in-ThresholdAt.f c.in-ThresholdAt.at c.in-ThresholdAt.e c.requires.session c.in-ThresholdAt.is).2.positive
+
+pub threshold_at-requires-clause-small : goal.threshold_at-requires-clause-small
+threshold_at-requires-clause-small g c = small_level c.in-ThresholdAt.e (g.met.K.Coeff.characteristic_is ∙ ap (λ (F : Field). F.characteristic) c.requires.field) (threshold_at_question c.args.env.now c.args.asked.now c.in-ThresholdAt.f c.in-ThresholdAt.at c.in-ThresholdAt.e c.requires.session c.in-ThresholdAt.is).2.low
+
+pub returns-in-ThresholdAt : goal.returns-in-ThresholdAt
+returns-in-ThresholdAt g c =
+    let F = g.K.Coeff.field in
+    let asked = c.args.asked.now in
+    let e = c.in-ThresholdAt.e in
+    let f = polynomial_at c.args.env.now c.in-ThresholdAt.f in
+    let n = length c.args.env.now.vars in
+    let P = point_at c.args.env.now c.in-ThresholdAt.at in
+    found_as F c.args.env.now asked (questions.ThresholdAt c.in-ThresholdAt.f c.in-ThresholdAt.at e) c.in-ThresholdAt.is c.threshold_at.result
+    (found_threshold (IsPointAnswer F e f n P) F (RunFor Grevlex (IsPointThresholdList F e f n P)) (IsHighInPointThreshold F e f n P) asked.order asked.budget c.threshold_at.result c.threshold_at.ensures.answer c.threshold_at.ensures.stop)

@@ -7,7 +7,8 @@ use Rattle.fj_script.specs.declared.script.Env.{Env}
 use Rattle.fj_session.specs.Answer.{IsAnswer}
 use Rattle.fj_session.specs.AnswerLaws.{IsStop, NothingStopsIt, meaning_in}
 use Rattle.fj_session.specs.declared.types.Answer.{Answer}
-use Rattle.fj_session.specs.declared.types.Answer.TheVariants.{Parts, Ideal, Yes, No, Off, StoppedPairs, StoppedHigh, Later}
+use Rattle.fj_session.specs.declared.types.Answer.TheVariants.{Parts, Ideal, Yes, No, Off, StoppedPairs, StoppedHigh}
+use Rattle.fj_session.specs.declared.types.Answer.TheVariants as answers
 use Rattle.fj_session.proofs.laws.stops_have_causes.Goals as goal
 
 module _ (env : Env) (asked : Asked) (none : NothingStopsIt env asked) where
@@ -23,7 +24,12 @@ module _ (env : Env) (asked : Asked) (none : NothingStopsIt env asked) where
   no_stop Yes h stop = stop
   no_stop No h stop = stop
   no_stop Off h stop = stop
-  no_stop Later h stop = stop
+  no_stop (answers.Jumps jumps gaps complete) h stop = stop
+  no_stop (answers.Nu r) h stop = stop
+  no_stop (answers.At t) h stop = stop
+  no_stop (answers.Between s t) h stop = stop
+  no_stop answers.NotIn h stop = stop
+  no_stop answers.Unit h stop = stop
 
 pub returns : goal.returns
 returns c env asked answer h none = no_stop env asked none answer h
