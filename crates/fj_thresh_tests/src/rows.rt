@@ -41,16 +41,6 @@ const NODE: Terms<'static> = &[[2, 0, 0], [0, 2, 0], [3, 0, 0]];
 // x^3 + y^3 + z^3
 const FERMAT: Terms<'static> = &[[3, 0, 0], [0, 3, 0], [0, 0, 3]];
 
-// What a threshold is expected to be.
-#[derive(Drop)]
-enum Expected {
-    At(u64, u64),
-    Between(u64, u64, u64, u64),
-    NotIn,
-    Unit,
-    Off,
-}
-
 fn poly<K: Coeff>(rt: &impl Abort, alloc: Global, terms: Terms) -> Result<GPoly<K>, AllocError> {
     let mut sum = Poly::zero(alloc);
     for [x, y, z] in terms {
@@ -82,35 +72,47 @@ fn is_ratio(t: &Ratio, num: u64, den: u64) -> bool {
     t.num() == num && t.den() == den
 }
 
-fn is_expected(found: Threshold, expected: &Expected) -> bool {
-    match (found, expected) {
-        (Threshold::At(t), Expected::At(num, den)) => is_ratio(&t, *num, *den),
-        (Threshold::Between(s, t), Expected::Between(low, below, high, above)) => {
-            is_ratio(&s, *low, *below) && is_ratio(&t, *high, *above)
+fn is_at(found: Threshold, num: u64, den: u64) -> bool {
+    match found {
+        Threshold::At(t) => is_ratio(&t, num, den),
+        _ => false,
+    }
+}
+
+fn is_between(found: Threshold, lower: (u64, u64), upper: (u64, u64)) -> bool {
+    match found {
+        Threshold::Between(s, t) => {
+            is_ratio(&s, lower.0, lower.1) && is_ratio(&t, upper.0, upper.1)
         }
-        (Threshold::NotIn, Expected::NotIn) => true,
-        (Threshold::Unit, Expected::Unit) => true,
-        (Threshold::Off, Expected::Off) => true,
         _ => false,
     }
 }
 
 // The threshold of a polynomial at the origin.
-fn at_origin<K: Coeff>(
-    rt: &impl Abort,
-    alloc: Global,
-    f: Terms,
-    e: u32,
-    expected: Expected,
-) -> Result<(), Fail>
+fn at_origin<K: Coeff>(rt: &impl Abort, alloc: Global, f: Terms, e: u32) -> Result<Threshold, Fail>
     requires positive { 1 ≤ e }
     requires small { K.P ^ e ≤ 65536 }
 {
     let f: GPoly<K> = poly(rt, alloc, f)?;
     let origin = Point::of(alloc, &[])?;
     assert!(rt; is_admissible(&f));
-    let found = threshold_at(alloc, &f, &origin, 7, e, PAIRS)?;
-    assert!(rt; is_expected(found, &expected));
+    Ok(threshold_at(alloc, &f, &origin, 7, e, PAIRS)?)
+}
+
+// The threshold of a polynomial at the origin is num/den.
+fn has_threshold<K: Coeff>(
+    rt: &impl Abort,
+    alloc: Global,
+    f: Terms,
+    e: u32,
+    num: u64,
+    den: u64,
+) -> Result<(), Fail>
+    requires positive { 1 ≤ e }
+    requires small { K.P ^ e ≤ 65536 }
+{
+    let found = at_origin::<K>(rt, alloc, f, e)?;
+    assert!(rt; is_at(found, num, den));
     Ok(())
 }
 
@@ -121,17 +123,14 @@ fn at_ideal<K: Coeff>(
     f: Terms,
     rows: &[Terms],
     e: u32,
-    expected: Expected,
-) -> Result<(), Fail>
+) -> Result<Threshold, Fail>
     requires positive { 1 ≤ e }
     requires small { K.P ^ e ≤ 65536 }
 {
     let f: GPoly<K> = poly(rt, alloc, f)?;
     let j = ideal(rt, alloc, rows)?;
     assert!(rt; is_admissible(&f));
-    let found = threshold(alloc, &f, &j, e, PAIRS)?;
-    assert!(rt; is_expected(found, &expected));
-    Ok(())
+    Ok(threshold(alloc, &f, &j, e, PAIRS)?)
 }
 
 // The number nu(e) of a polynomial at an ideal.
@@ -182,39 +181,47 @@ fn no_nu(rt: HostRuntime) -> Result<(), Fail> {
 #[test]
 fn thresholds_of_the_cusp(rt: HostRuntime) -> Result<(), Fail> {
     let alloc = rt.alloc();
-    at_origin::<Fp<2>>(&rt, alloc, CUSP, 2, Expected::At(1, 2))?;
-    at_origin::<Fp<3>>(&rt, alloc, CUSP, 2, Expected::At(2, 3))?;
-    at_origin::<Fp<5>>(&rt, alloc, CUSP, 2, Expected::At(4, 5))?;
-    at_origin::<Fp<7>>(&rt, alloc, CUSP, 1, Expected::At(5, 6))?;
-    at_origin::<Fp<11>>(&rt, alloc, CUSP, 2, Expected::At(9, 11))?;
-    at_origin::<Fp<13>>(&rt, alloc, CUSP, 1, Expected::At(5, 6))
+    has_threshold::<Fp<2>>(&rt, alloc, CUSP, 2, 1, 2)?;
+    has_threshold::<Fp<3>>(&rt, alloc, CUSP, 2, 2, 3)?;
+    has_threshold::<Fp<5>>(&rt, alloc, CUSP, 2, 4, 5)?;
+    has_threshold::<Fp<7>>(&rt, alloc, CUSP, 1, 5, 6)?;
+    has_threshold::<Fp<11>>(&rt, alloc, CUSP, 2, 9, 11)?;
+    has_threshold::<Fp<13>>(&rt, alloc, CUSP, 1, 5, 6)
 }
 
 #[test]
 fn thresholds_at_the_origin(rt: HostRuntime) -> Result<(), Fail> {
     let alloc = rt.alloc();
-    at_origin::<Fp<5>>(&rt, alloc, FERMAT, 1, Expected::Between(3, 4, 1, 1))?;
-    at_origin::<Fp<5>>(&rt, alloc, FERMAT, 2, Expected::At(4, 5))?;
-    at_origin::<Fp<7>>(&rt, alloc, FERMAT, 1, Expected::At(1, 1))?;
-    at_origin::<Fp<7>>(&rt, alloc, NODE, 1, Expected::At(1, 1))?;
-    at_origin::<Fp<5>>(&rt, alloc, SHIFTED, 1, Expected::Off)?;
-    // Below the least candidate the gap begins at 0: the threshold of x^5 is 1/5.
-    at_origin::<Fp<2>>(&rt, alloc, &[[5, 0, 0]], 2, Expected::Between(0, 1, 1, 3))
+    has_threshold::<Fp<5>>(&rt, alloc, FERMAT, 2, 4, 5)?;
+    has_threshold::<Fp<7>>(&rt, alloc, FERMAT, 1, 1, 1)?;
+    has_threshold::<Fp<7>>(&rt, alloc, NODE, 1, 1, 1)
 }
 
+// Where no candidate is the threshold: that of the Fermat cubic is 4/5, that of x^5 is 1/5, below each candidate. And where the
+// polynomial isn't zero.
+#[test]
+fn no_threshold_at_the_origin(rt: HostRuntime) -> Result<(), Fail> {
+    let alloc = rt.alloc();
+    let cubic = at_origin::<Fp<5>>(&rt, alloc, FERMAT, 1)?;
+    assert!(rt; is_between(cubic, (3, 4), (1, 1)));
+    let power = at_origin::<Fp<2>>(&rt, alloc, &[[5, 0, 0]], 2)?;
+    assert!(rt; is_between(power, (0, 1), (1, 3)));
+    let shifted = at_origin::<Fp<5>>(&rt, alloc, SHIFTED, 1)?;
+    assert!(rt; matches!(shifted, Threshold::Off));
+    Ok(())
+}
+
+// x^3 at (x^2) has the threshold 2/3.
 #[test]
 fn thresholds_at_ideals(rt: HostRuntime) -> Result<(), Fail> {
     let alloc = rt.alloc();
-    at_ideal::<Fp<5>>(&rt, alloc, SHIFTED, &[ONE], 1, Expected::Unit)?;
-    at_ideal::<Fp<5>>(&rt, alloc, SHIFTED, &[X], 1, Expected::NotIn)?;
-    at_ideal::<Fp<5>>(&rt, alloc, FERMAT, &[X, Y, Z], 2, Expected::At(4, 5))?;
-    // x^3 at (x^2) has the threshold 2/3.
-    at_ideal::<Fp<2>>(
-        &rt,
-        alloc,
-        &[[3, 0, 0]],
-        &[&[[2, 0, 0]]],
-        2,
-        Expected::At(2, 3),
-    )
+    let unit = at_ideal::<Fp<5>>(&rt, alloc, SHIFTED, &[ONE], 1)?;
+    assert!(rt; matches!(unit, Threshold::Unit));
+    let outside = at_ideal::<Fp<5>>(&rt, alloc, SHIFTED, &[X], 1)?;
+    assert!(rt; matches!(outside, Threshold::NotIn));
+    let cubic = at_ideal::<Fp<5>>(&rt, alloc, FERMAT, &[X, Y, Z], 2)?;
+    assert!(rt; is_at(cubic, 4, 5));
+    let power = at_ideal::<Fp<2>>(&rt, alloc, &[[3, 0, 0]], &[&[[2, 0, 0]]], 2)?;
+    assert!(rt; is_at(power, 2, 3));
+    Ok(())
 }
