@@ -28,3 +28,4 @@ pub mod Turning
 pub mod Starting
 pub mod Copies
 pub mod Dividing
+pub mod Held
