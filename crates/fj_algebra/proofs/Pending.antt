@@ -1,11 +1,12 @@
 -- The pairs of a growing list: which are settled, and which are pending.
-use Rattle.std.proofs.Common.{◌≡◌, ℕ, suc, ◌<◌, ◌≤◌, List, [], ◌∷◌, ◌++◌, length, Contains, ◌⊎◌, inl, inr, sym, subst, subst₂, arith, length-append}
+use Rattle.std.proofs.Common.{◌≡◌, ◌≢◌, ℕ, suc, ◌<◌, ◌≤◌, List, [], ◌∷◌, ◌++◌, length, get_or, Contains, ◌⊎◌, inl, inr, sym, subst, subst₂, arith, length-append}
 use Rattle.std.specs.List.{AllPairs}
 use Rattle.std.proofs.lemmas.List.{get_or_default, get_or_append_left}
 use Rattle.std.proofs.lemmas.List.Elements.{Contains-append_left}
-use Rattle.fj_algebra.specs.Polynomial.{OrderedPolynomials}
+use Rattle.fj_algebra.specs.Order.{Divides}
+use Rattle.fj_algebra.specs.Polynomial.{OrderedPolynomials, IsLead}
 use Rattle.fj_algebra.specs.Buchberger.{Settled, SettledAt, AllSettledBut}
-use Rattle.fj_algebra.proofs.Criteria.{Settled-weaker, Settled-sym}
+use Rattle.fj_algebra.proofs.Criteria.{Settled-weaker, Settled-sym, Settled-chain}
 
 module _ {K M A : Type 0} (P : OrderedPolynomials K M A) where
   open P use {ring.{zero as 𝟘}}
@@ -25,6 +26,22 @@ module _ {K M A : Type 0} (P : OrderedPolynomials K M A) where
 
   pub SettledAt-sym : {G : List A} {i j : ℕ} → SettledAt P G i j → SettledAt P G j i
   SettledAt-sym s = record { pair = Settled-sym P s.pair }
+
+  -- The chain criterion at places of a list.
+  pub SettledAt-chain : {G : List A} (i j k : ℕ) {a b c : M} → IsLead P (get_or G i 𝟘) a → IsLead P (get_or G j 𝟘) b → IsLead P (get_or G k 𝟘) c →
+      ((d : M) → Divides P.monomials a d → Divides P.monomials b d → Divides P.monomials c d) → SettledAt P G i k → SettledAt P G j k → SettledAt P G i j
+  SettledAt-chain i j k la lb lc divides s t = record { pair = Settled-chain P la lb lc divides s.pair (Settled-sym P t.pair) }
+
+  -- The pair of two places that is pending in neither order is settled.
+  pub settled_if_not_pending : {G : List A} {pending : ℕ → ℕ → Type 0} (i j : ℕ) → i ≢ j → i < length G → j < length G → (pending i j → ⊥) →
+      (pending j i → ⊥) → AllSettledBut P G pending → SettledAt P G i j
+  settled_if_not_pending i j n k l p q all = elim (apart i j n) [
+    | inl h ↦ (elim (all.each i j h l) [ inl c ↦ absurd (p c) | inr s ↦ s ])
+    | inr h ↦ (elim (all.each j i h k) [ inl c ↦ absurd (q c) | inr s ↦ SettledAt-sym s ])
+  ]
+    where
+      apart : (i j : ℕ) → i ≢ j → (i < j) ⊎ (j < i)
+      apart i j n = grind arith
 
   -- A pair that is settled is no longer pending.
   pub settle_pair : {G : List A} {before after : ℕ → ℕ → Type 0} (i j : ℕ) → SettledAt P G i j →

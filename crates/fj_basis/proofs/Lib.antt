@@ -23,6 +23,8 @@ pub mod Expressed
 pub mod MadeRows
 pub mod Stops
 pub mod PendingPairs
+pub mod PendingIndex
+pub mod Sparing
 pub mod NextMember
 pub mod Turning
 pub mod Starting

@@ -1,10 +1,10 @@
 -- The pending pairs of a run, as its turns change them.
-use Rattle.std.proofs.Common.{◌≡◌, ◌≢◌, ◌⊎◌, inl, inr, ℕ, ◌<◌, ◌≤◌, ◌==◌, ◌&&◌, nat_le, not, Bool, true, false, cond, Option, Some, None, Ordering, Less, Greater, List, [], ◌∷◌, ◌++◌, length, All, Contains, get_or, nat_cmp, refl, sym, ap, ap₂, ◌∙◌, subst, arith, true≢false, eq-eqb}
+use Rattle.std.proofs.Common.{◌≡◌, ◌≢◌, ◌⊎◌, inl, inr, ℕ, ◌<◌, ◌≤◌, ◌==◌, ◌&&◌, nat_le, not, Bool, true, false, cond, Option, Some, None, Ordering, Less, Greater, List, [], ◌∷◌, ◌++◌, length, length-append, All, Contains, get_or, nat_cmp, refl, sym, ap, ap₂, ◌∙◌, subst, arith, true≢false, eq-eqb}
 use Rattle.std.specs.List.{range_with_len}
 use Rattle.std.specs.Cmp.Lexicographic.{slice_cmp, nat_list_cmp_total}
 use Rattle.std.specs.FinMap.{empty}
 use Rattle.std.specs.Ordering.{on, ordering_reverse}
-use Rattle.std.proofs.lemmas.List.{get_or_append_left}
+use Rattle.std.proofs.lemmas.List.{get_or-map, get_or_append_left, length-map, map-append}
 use Rattle.std.proofs.lemmas.List.Elements.{All-contains, All-weaker, Contains-append_left, Contains-append_right, Contains-append_cases}
 use Rattle.std.proofs.lemmas.Bool.Decides.{nat_tests}
 use Rattle.fj_algebra.proofs.Pairs.{All-from_elements, contains_cons, contains_filter, contains_head, contains_map, contains_map_back, contains_tail, filter_contains}
@@ -17,7 +17,8 @@ use Rattle.fj_groebner.specs.Run.{IsNext, append_member, drop_pair, lead_of, pai
 use Rattle.fj_groebner.proofs.Run.{in_range, of_range, same_pair}
 use Rattle.fj_basis.specs.declared.pairs.Pair.{Pair}
 use Rattle.fj_basis.specs.Place.{IsWithinLimit, place, place_by}
-use Rattle.fj_basis.specs.State.{ArePending, HasPairsWith, IsPairOf}
+use Rattle.fj_basis.specs.Pending.{HasPairsWith, IsPairOver, PendingPairs}
+use Rattle.fj_basis.specs.State.{ArePending, IsPairOf, IsPendingOf, leads_of}
 
 in_pairs_with : (n x : ℕ) → x < n → Contains (pairs_with n) (x, n)
 unfolding pairs_with
@@ -35,7 +36,7 @@ same_places : (i j : ℕ) (other : ℕ × ℕ) → other.0 ≡ i → other.1 ≡
 same_places i j other e h = ap₂ ◌&&◌ (eq-eqb other.0 i e) (eq-eqb other.1 j h)
 
 -- A list stands neither before nor behind itself.
-not_before : (a : List ℕ) → slice_cmp nat_cmp a a ≡ Less → ⊥
+pub not_before : (a : List ℕ) → slice_cmp nat_cmp a a ≡ Less → ⊥
 not_before a e =
     let back : Less ≡ Greater = sym e ∙ nat_list_cmp_total.antisymm a a ∙ ap ordering_reverse e in
     absurd (cc)
@@ -45,7 +46,7 @@ not_behind a e =
     let back : Greater ≡ Less = sym e ∙ nat_list_cmp_total.antisymm a a ∙ ap ordering_reverse e in
     absurd (cc)
 
-within-place : (key : List ℕ → List ℕ) (a rest : List ℕ) (o : Option Monomial) → IsWithinLimit a o → place_by key o rest ≡ cond (nat_le (total a) degree_limit) (0 ∷ (key a ++ rest)) (1 ∷ rest)
+pub within-place : (key : List ℕ → List ℕ) (a rest : List ℕ) (o : Option Monomial) → IsWithinLimit a o → place_by key o rest ≡ cond (nat_le (total a) degree_limit) (0 ∷ (key a ++ rest)) (1 ∷ rest)
 unfolding place_by
 within-place key a rest (Some m) e =
     let bounded = m.bounded in
@@ -60,7 +61,7 @@ module _ {O : Type 0} (key : List ℕ → List ℕ) where
   order_of_pairs = on (place key) (slice_cmp nat_cmp)
 
   -- The place at which the code keeps a pair.
-  place-is : (G : List Sugared) (p : Pair O) → IsPairOf key G p → place key p ≡ pair_place key G (p.i, p.j)
+  pub place-is : (G : List Sugared) (p : Pair O) → IsPairOf key G p → place key p ≡ pair_place key G (p.i, p.j)
   unfolding place pair_place
   place-is G p own = within-place key (pair_multiple key G (p.i, p.j)) (p.j ∷ (p.i ∷ [])) p.multiple own.multiple
 
@@ -131,26 +132,52 @@ module _ {O : Type 0} (key : List ℕ → List ℕ) where
             (ap₂ (λ (x y : Sugared). least_common_multiple (lead_exponents key x.polynomial) (lead_exponents key y.polynomial)) (same p.i l) (same p.j m)) own.multiple;
       }
 
+  -- A pair over the leads of a list.
+  pub IsPairOver-IsPairOf : (G : List Sugared) (leads : List (List ℕ)) (p : Pair O) → leads ≡ leads_of key G → p.i < length G → p.j < length G → IsPairOver leads p
+      → IsPairOf key G p
+  unfolding pair_multiple lead_of member_at
+  IsPairOver-IsPairOf G leads p e l m own =
+      let none : Sugared = record { polynomial = empty; sugar = 0 } in
+      let at : (k : ℕ) → k < length G → get_or leads k [] ≡ lead_exponents key (get_or G k none).polynomial =
+      (λ k h. ap (λ xs. get_or xs k []) e ∙ get_or-map (λ (g : Sugared). lead_exponents key g.polynomial) G k none [] h) in
+      record { multiple = subst (λ a. IsWithinLimit a p.multiple) (ap₂ least_common_multiple (at p.i l) (at p.j m)) own }
+
   -- A member is appended with its pairs.
-  pub ArePending-append : (s : definition.Run) (g : Sugared) (before after : List (Pair O)) → ((i j : ℕ) → Contains s.pending (i, j) → (i < j) × (j < length s.members))
-      → ArePending key s before → HasPairsWith key (s.members ++ (g ∷ [])) (length s.members) before after → ArePending key (append_member s g) after
+  pub IsPendingOf-append : (s : definition.Run) (g : Sugared) (before after : PendingPairs O) → ((i j : ℕ) → Contains s.pending (i, j) → (i < j) × (j < length s.members))
+      → IsPendingOf key s before → after.leads ≡ before.leads ++ (lead_exponents key g.polynomial ∷ []) → HasPairsWith after.leads (length before.leads) before.pairs after.pairs
+      → IsPendingOf key (append_member s g) after
   unfolding append_member
-  ArePending-append s g before after within pending new = record {
-    sound = All-weaker (λ q. Contains before q ⊎ (IsPairOf key (s.members ++ (g ∷ [])) q × (q.i < length s.members) × (q.j ≡ length s.members)))
-        (λ q. IsPairOf key (s.members ++ (g ∷ [])) q × Contains (s.pending ++ pairs_with (length s.members)) (q.i, q.j)) known after new.sound;
-    complete = λ pair c. elim (Contains-append_cases s.pending (pairs_with (length s.members)) pair c) [
-      | inl old ↦ (let found = pending.complete pair old in (found.0, All-contains (Contains after) before found.0 new.kept found.1, found.2, found.3))
-      | inr own ↦ (let places = of_pairs_with (length s.members) pair own in let found = new.new pair.0 places.0 in (found.0, found.1, found.2, found.3 ∙ sym places.1))
-    ];
+  IsPendingOf-append s g before after within old grown pairs = record {
+    leads = leads;
+    pairs = record {
+      sound = All-weaker (λ q. Contains before.pairs q ⊎ (IsPairOver after.leads q × (q.i < length s.members) × (q.j ≡ length s.members)))
+          (λ q. IsPairOf key (s.members ++ (g ∷ [])) q × Contains (s.pending ++ pairs_with (length s.members)) (q.i, q.j)) known after.pairs new.sound;
+      complete = λ pair c. elim (Contains-append_cases s.pending (pairs_with (length s.members)) pair c) [
+        | inl own ↦ (let found = old.pairs.complete pair own in (found.0, All-contains (Contains after.pairs) before.pairs found.0 new.kept found.1, found.2, found.3))
+        | inr own ↦ (let places = of_pairs_with (length s.members) pair own in let found = new.new pair.0 places.0 in (found.0, found.1, found.2, found.3 ∙ sym places.1))
+      ];
+    };
   }
     where
-      known : (q : Pair O) → Contains before q ⊎ (IsPairOf key (s.members ++ (g ∷ [])) q × (q.i < length s.members) × (q.j ≡ length s.members))
+      leads : after.leads ≡ leads_of key (s.members ++ (g ∷ []))
+      leads =
+          grown ∙ ap (λ xs. xs ++ (lead_exponents key g.polynomial ∷ [])) old.leads
+          ∙ sym (map-append (λ (h : Sugared). lead_exponents key h.polynomial) s.members (g ∷ []))
+
+      count : length before.leads ≡ length s.members
+      count = ap length old.leads ∙ length-map s.members (λ (h : Sugared). lead_exponents key h.polynomial)
+
+      new : HasPairsWith after.leads (length s.members) before.pairs after.pairs
+      new = subst (λ n. HasPairsWith after.leads n before.pairs after.pairs) count pairs
+
+      known : (q : Pair O) → Contains before.pairs q ⊎ (IsPairOver after.leads q × (q.i < length s.members) × (q.j ≡ length s.members))
           → IsPairOf key (s.members ++ (g ∷ [])) q × Contains (s.pending ++ pairs_with (length s.members)) (q.i, q.j)
       known q (inl c) =
-          let both = All-contains (λ q. IsPairOf key s.members q × Contains s.pending (q.i, q.j)) before q pending.sound c in
+          let both = All-contains (λ q. IsPairOf key s.members q × Contains s.pending (q.i, q.j)) before.pairs q old.pairs.sound c in
           let places = within q.i q.j both.1 in
           (IsPairOf-more s.members g q (omega (arith, places.0, places.1)) places.1 both.0, Contains-append_left s.pending (pairs_with (length s.members)) (q.i, q.j) both.1)
-      known q (inr own) = (
-        own.0,
-        Contains-append_right s.pending (pairs_with (length s.members)) (q.i, q.j) (subst (λ n. Contains (pairs_with (length s.members)) (q.i, n)) (sym own.2) (in_pairs_with (length s.members) q.i own.1)),
-      )
+      known q (inr own) =
+          let long = length-append s.members (g ∷ []) in (
+            IsPairOver-IsPairOf (s.members ++ (g ∷ [])) after.leads q leads (omega (arith, own.1, long)) (omega (arith, own.2, long)) own.0,
+            Contains-append_right s.pending (pairs_with (length s.members)) (q.i, q.j) (subst (λ n. Contains (pairs_with (length s.members)) (q.i, n)) (sym own.2) (in_pairs_with (length s.members) q.i own.1)),
+          )

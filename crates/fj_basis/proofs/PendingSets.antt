@@ -10,10 +10,9 @@ use Rattle.std.proofs.lemmas.Map.Views.{All-insert_key}
 use Rattle.fj_algebra.proofs.Pairs.{contains_cons, contains_head, contains_tail, contains_nil, All-from_elements}
 use Rattle.std.proofs.lemmas.Bool.{cases_lt}
 use Rattle.fj_mono.specs.Monomial.{Monomial}
-use Rattle.fj_groebner.specs.Division.{Sugared}
 use Rattle.fj_basis.specs.declared.pairs.Pair.{Pair}
 use Rattle.fj_basis.specs.Place.{place, place_by}
-use Rattle.fj_basis.specs.State.{HasPairsUpTo, IsPairOf}
+use Rattle.fj_basis.specs.Pending.{HasPairsUpTo, IsPairOver}
 
 module _ {K : Type 0} (cmp : K → K → Ordering) (k : K) where
   -- No key is lost.
@@ -63,20 +62,20 @@ module _ {O : Type 0} (key : List ℕ → List ℕ) where
       last_two u.0 v.0 p.i p.j q.i q.j (sym u.1 ∙ exact_bytes (place key p) (place key q) e ∙ v.1)
 
   -- None at first.
-  pub pairs-none : (G : List Sugared) (j : ℕ) (before : List (Pair O)) → HasPairsUpTo key G j 0 before before
-  pairs-none G j before = record {
+  pub pairs-none : (leads : List (List ℕ)) (j : ℕ) (before : List (Pair O)) → HasPairsUpTo leads j 0 before before
+  pairs-none leads j before = record {
     kept = All-from_elements (Contains before) before (λ x c. c);
     new = λ i l. absurd (omega (arith, l));
-    sound = All-from_elements (λ q. Contains before q ⊎ (IsPairOf key G q × (q.i < j) × (q.j ≡ j))) before (λ x c. inl c);
+    sound = All-from_elements (λ q. Contains before q ⊎ (IsPairOver leads q × (q.i < j) × (q.j ≡ j))) before (λ x c. inl c);
   }
 
   -- One more pair of the place j.
-  pub insert-pair : (G : List Sugared) (j i : ℕ) (before now : List (Pair O)) (p : Pair O) → i < j → p.i ≡ i → p.j ≡ j → IsPairOf key G p
-      → HasPairsUpTo key G j i before now → HasPairsUpTo key G j (i + 1) before (insert_key (on (place key) (slice_cmp nat_cmp)) now p)
-  insert-pair G j i before now p less is_i is_j own h = record {
+  pub insert-pair : (leads : List (List ℕ)) (j i : ℕ) (before now : List (Pair O)) (p : Pair O) → i < j → p.i ≡ i → p.j ≡ j → IsPairOver leads p
+      → HasPairsUpTo leads j i before now → HasPairsUpTo leads j (i + 1) before (insert_key (on (place key) (slice_cmp nat_cmp)) now p)
+  insert-pair leads j i before now p less is_i is_j own h = record {
     kept = All-weaker (Contains now) (Contains (insert_key (on (place key) (slice_cmp nat_cmp)) now p)) (λ x c. insert-kept (on (place key) (slice_cmp nat_cmp)) p now x c) before h.kept;
     new = λ x l. by x l (same_or_less x);
-    sound = All-insert_key (on (place key) (slice_cmp nat_cmp)) p (λ q. Contains before q ⊎ (IsPairOf key G q × (q.i < j) × (q.j ≡ j))) now h.sound (inr (own, omega (arith, is_i, less), is_j));
+    sound = All-insert_key (on (place key) (slice_cmp nat_cmp)) p (λ q. Contains before q ⊎ (IsPairOver leads q × (q.i < j) × (q.j ≡ j))) now h.sound (inr (own, omega (arith, is_i, less), is_j));
   }
     where
       same_or_less : (x : ℕ) → (x < i) ⊎ (i ≤ x)

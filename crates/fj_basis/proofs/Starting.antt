@@ -16,11 +16,11 @@ use Rattle.fj_theory.specs.Exponents.{origin}
 use Rattle.fj_theory.specs.MonomialOrder.{IsMonomialOrder}
 use Rattle.fj_theory.specs.Polynomial.{Polynomial, term}
 use Rattle.fj_theory.specs.Ideal.{ArePolynomials}
-use Rattle.fj_theory.specs.Lead.{lead_coefficient, made_monic}
+use Rattle.fj_theory.specs.Lead.{lead_coefficient, lead_exponents, made_monic}
 use Rattle.fj_groebner.specs.Rows.{IsRow}
 use Rattle.fj_groebner.specs.Division.{DegreeAtMost, Sugared, degree_limit}
 use Rattle.fj_groebner.specs.Run as definition
-use Rattle.fj_groebner.specs.Run.{append_member, first_members, given, monic_member, pairs_with, run_start}
+use Rattle.fj_groebner.specs.Run.{AreRemovals, append_member, first_members, given, monic_member, pairs_with, run_start}
 use Rattle.fj_theory.proofs.Exponents.{IsExponents-origin, total_origin}
 use Rattle.fj_theory.proofs.Field.{zero_below}
 use Rattle.fj_theory.proofs.Lead.{lead_coefficient-below, lead_coefficient-nonzero}
@@ -31,16 +31,17 @@ use Rattle.fj_groebner.proofs.Sugar.{DegreeAtMost-made_monic, given-DegreeAtMost
 use Rattle.fj_basis.specs.declared.members.Member.{Member}
 use Rattle.fj_basis.specs.declared.run.Run.{Run}
 use Rattle.fj_basis.specs.Members.{IsTraced, sugared, sugared_members}
-use Rattle.fj_basis.specs.State.{ArePending, HasPairsWith, IsAfter}
+use Rattle.fj_basis.specs.Pending.{HasPairsWith}
+use Rattle.fj_basis.specs.State.{IsAfter, IsPendingOf}
 use Rattle.fj_basis.proofs.Gathered.{gathered_all}
 use Rattle.fj_basis.proofs.NextMember.{made_monic-nonzero}
-use Rattle.fj_basis.proofs.PendingPairs.{ArePending-append}
+use Rattle.fj_basis.proofs.PendingPairs.{IsPendingOf-append}
 use Rattle.fj_basis.proofs.RowBounds.{DegreeAtMost-empty, DegreeAtMost-term}
 
 -- The start of the run on the first n polynomials of L, with cofactors over all of L.
 pub record IsStarted {K R : Type 0} (F : Field) (key : List ℕ → List ℕ) (L : List Polynomial) (n : ℕ) (s : Run K R) : Type 0 where
   pub members : (run_start F key (take n L)).members ≡ sugared_members s.members.items
-  pub pending : ArePending key (run_start F key (take n L)) s.pending.keys
+  pub pending : IsPendingOf key (run_start F key (take n L)) s.pending
   pub traced : All (IsTraced F L) s.members.items
   pub nonzero : All (λ m. m.polynomial ≢ empty) s.members.items
 
@@ -99,9 +100,9 @@ module _ (F : Field) (key : List ℕ → List ℕ) where
   unfolding run_start
   start-places N i j c = of_all_pairs (length (first_members F key N)) i j c
 
-  none-ArePending : {R : Type 0} → ArePending {O = R} key (run_start F key []) []
+  none-pending : {R : Type 0} → IsPendingOf {O = R} key (run_start F key []) (record { leads = []; pairs = [] })
   unfolding run_start first_members
-  none-ArePending {R} = record { sound = All-nil _; complete = λ pair c. absurd (contains_nil pair c) }
+  none-pending {R} = record { leads = refl; pairs = record { sound = All-nil _; complete = λ pair c. absurd (contains_nil pair c) } }
 
   none-members : (run_start F key []).members ≡ []
   unfolding run_start first_members
@@ -112,10 +113,10 @@ one-more L n l = ap (λ m. take m L) (add-one n) ∙ take-suc L n empty l
 
 module _ {K R : Type 0} {F : Field} {key : List ℕ → List ℕ} (L : List Polynomial) where
   -- Nothing is read.
-  pub started-none : (s : Run K R) → s.members.items ≡ [] → s.pending.keys ≡ [] → IsStarted F key L 0 s
-  started-none s members keys = record {
+  pub started-none : (s : Run K R) → s.members.items ≡ [] → s.pending.leads ≡ [] → s.pending.pairs ≡ [] → IsStarted F key L 0 s
+  started-none s members leads pairs = record {
     members = none-members F key ∙ ap sugared_members (sym members);
-    pending = subst (ArePending key (run_start F key [])) (sym keys) (none-ArePending F key);
+    pending = subst (IsPendingOf key (run_start F key [])) (λ i. record { leads = sym leads i; pairs = sym pairs i }) (none-pending F key);
     traced = subst (All (IsTraced F L)) (sym members) (All-nil (IsTraced F L));
     nonzero = subst (All (λ (m : Member K R). m.polynomial ≢ empty)) (sym members) (All-nil (λ m. m.polynomial ≢ empty));
   }
@@ -126,42 +127,47 @@ module _ {K R : Type 0} {F : Field} {key : List ℕ → List ℕ} (L : List Poly
       let same = sym (ap (run_start F key) (one-more L n l) ∙ start-zero F key (take n L) (get_or L n empty) e) in
       record {
         members = sym (ap (λ t. t.members) same) ∙ before.members;
-        pending = subst (λ t. ArePending key t s.pending.keys) same before.pending;
+        pending = subst (λ t. IsPendingOf key t s.pending) same before.pending;
         traced = before.traced;
         nonzero = before.nonzero;
       }
 
   -- One that isn't.
   pub started-more : (n : ℕ) (s new : Run K R) (m : Member K R) → n < length L → get_or L n empty ≢ empty → sugared m ≡ monic_member F key (given (get_or L n empty)) → IsTraced F L m → m.polynomial ≢ empty
-      → new.members.items ≡ s.members.items ++ (m ∷ []) → HasPairsWith key (sugared_members new.members.items) (length s.members.items) s.pending.keys new.pending.keys
+      → new.members.items ≡ s.members.items ++ (m ∷ []) → new.pending.leads ≡ s.pending.leads ++ (lead_exponents key m.polynomial ∷ [])
+      → HasPairsWith new.pending.leads (length s.pending.leads) s.pending.pairs new.pending.pairs
       → IsStarted F key L n s → IsStarted F key L (n + 1) new
   unfolding append_member
-  started-more n s new m l some is traced nonzero whole pairs before =
+  started-more n s new m l some is traced nonzero whole grown pairs before =
       let old = run_start F key (take n L) in
       let g = monic_member F key (given (get_or L n empty)) in
       let same : run_start F key (take (n + 1) L) ≡ append_member old g = ap (run_start F key) (one-more L n l) ∙ start-more F key (take n L) (get_or L n empty) some in
       let are : sugared_members new.members.items ≡ old.members ++ (g ∷ []) =
       ap sugared_members whole ∙ map-append sugared s.members.items (m ∷ []) ∙ ap₂ (λ G h. G ++ (h ∷ [])) (sym before.members) is in
-      let count : length s.members.items ≡ length old.members = sym (ap length before.members ∙ length-map s.members.items sugared) in
       record {
         members = ap (λ t. t.members) same ∙ sym are;
-        pending = subst (λ t. ArePending key t new.pending.keys) (sym same)
-            (ArePending-append key old g s.pending.keys new.pending.keys (start-places F key (take n L)) before.pending (subst₂ (λ G k. HasPairsWith key G k s.pending.keys new.pending.keys) are count pairs));
+        pending = subst (λ t. IsPendingOf key t new.pending) (sym same)
+            (IsPendingOf-append key old g s.pending new.pending (start-places F key (take n L)) before.pending
+            (grown ∙ ap (λ h. s.pending.leads ++ (lead_exponents key h.polynomial ∷ [])) is) pairs);
         traced = gathered_all (IsTraced F L) s.members.items new.members.items m before.traced traced whole;
         nonzero = gathered_all (λ (g : Member K R). g.polynomial ≢ empty) s.members.items new.members.items m before.nonzero nonzero whole;
       }
 
-  -- All are read.
-  pub started-all : ArePolynomials F L → (n : ℕ) (s : Run K R) → length L ≤ n → IsStarted F key L n s → IsAfter F key L 0 s
-  started-all A n s l before =
-      let whole = take_all n L l in
+  -- All are read, and the removals of the start are made.
+  pub started-all : ArePolynomials F L → (n : ℕ) (s new : Run K R) → length L ≤ n → IsStarted F key L n s → new.members.items ≡ s.members.items
+      → ((t : definition.Run) → IsPendingOf key t s.pending → (u : definition.Run) × AreRemovals key t u × (u.members ≡ t.members) × IsPendingOf key u new.pending)
+      → IsAfter F key L 0 new
+  started-all A n s new l before same removed =
+      let whole = ap (run_start F key) (take_all n L l) in
+      let end = removed (run_start F key L) (subst (λ t. IsPendingOf key t s.pending) whole before.pending) in
       record {
         given = A;
-        state = run_start F key L;
-        run = record { states = []; steps = refl; made = refl };
-        members = ap (λ N. (run_start F key N).members) (sym whole) ∙ before.members;
-        pending = subst (λ N. ArePending key (run_start F key N) s.pending.keys) whole before.pending;
-        traced = before.traced;
+        state = end.0;
+        run = record { first = end.0; removals = end.1; states = []; steps = refl; made = refl };
+        members = end.2 ∙ ap (λ t. t.members) (sym whole) ∙ before.members ∙ ap sugared_members (sym same);
+        leads = end.3.leads;
+        pending = end.3.pairs;
+        traced = subst (All (IsTraced F L)) (sym same) before.traced;
       }
 
   -- A first member isn't zero.

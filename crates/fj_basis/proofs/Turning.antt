@@ -11,9 +11,10 @@ use Rattle.fj_coeff.specs.Field.{Field, IsField}
 use Rattle.fj_theory.specs.MonomialOrder.{IsMonomialOrder}
 use Rattle.fj_theory.specs.Polynomial.{Polynomial}
 use Rattle.fj_theory.specs.Ideal.{ArePolynomials}
+use Rattle.fj_theory.specs.Lead.{lead_exponents}
 use Rattle.fj_groebner.specs.Division.{Division, IsHighDivision, IsLowDivision}
 use Rattle.fj_groebner.specs.Run as definition
-use Rattle.fj_groebner.specs.Run.{IsHighTurn, IsNext, IsRun, IsTurn, append_member, drop_pair, dropped, has_coprime_leads, monic_member, run_start, s_polynomial, treat_pair, treated}
+use Rattle.fj_groebner.specs.Run.{AreRemovals, IsHighTurn, IsNext, IsRound, IsRun, IsTurn, append_member, drop_pair, dropped, has_coprime_leads, monic_member, s_polynomial, treat_pair, treated}
 use Rattle.fj_groebner.proofs.Division.{IsDivision-remainder_polynomial, same_length}
 use Rattle.fj_theory.proofs.IdealBridge.{in_ring}
 use Rattle.fj_groebner.proofs.Run.{IsRun-IsKept, nonzero}
@@ -22,11 +23,12 @@ use Rattle.fj_basis.specs.declared.pairs.Pair.{Pair}
 use Rattle.fj_basis.specs.declared.run.Run.{Run}
 use Rattle.fj_basis.specs.Finished.{AreMembersOfRun}
 use Rattle.fj_basis.specs.Members.{IsTraced, sugared, sugared_members}
-use Rattle.fj_basis.specs.State.{ArePending, HasPairsWith, IsAfter, IsNextMember, IsPairOf}
+use Rattle.fj_basis.specs.Pending.{HasPairsWith, PendingPairs}
+use Rattle.fj_basis.specs.State.{ArePending, IsAfter, IsNextMember, IsPairOf, IsPendingOf, IsTurned}
 use Rattle.fj_basis.proofs.Gathered.{gathered_all}
 use Rattle.fj_basis.proofs.Leading.{AreGood, IsRun-AreGood, nonzero_members, state-good}
 use Rattle.fj_basis.proofs.NextMember.{made_monic-nonzero, next-IsTraced}
-use Rattle.fj_basis.proofs.PendingPairs.{ArePending-append, ArePending-drop, IsNext-first, order_of_pairs}
+use Rattle.fj_basis.proofs.PendingPairs.{ArePending-drop, IsNext-first, IsPendingOf-append, order_of_pairs}
 use Rattle.fj_theory.proofs.Steps.{StepsTo-more}
 
 -- The members of a state.
@@ -45,12 +47,30 @@ module _ {K R : Type 0} {F : Field} (L : IsField F) {key : List ℕ → List ℕ
       let P = IsDivision-remainder_polynomial O L (sugared_members members) good.polynomials good.nonzero (good.s_is i j) found.division.division in
       made_monic-nonzero L O P found.found.0 (sym (ap (λ g. g.polynomial) found.found.1) ∙ e)
 
-IsRun-more : {F : Field} {key : List ℕ → List ℕ} {N : List Polynomial} {turns : ℕ} {s t : definition.Run} → IsRun F key N turns s → IsTurn F key s t → IsRun F key N (suc turns) t
-IsRun-more {F} {key} {N} {s = s} {t = t} r turn = record {
+IsRun-more : {F : Field} {key : List ℕ → List ℕ} {N : List Polynomial} {turns : ℕ} {s t : definition.Run} → IsRun F key N turns s → IsRound F key s t → IsRun F key N (suc turns) t
+IsRun-more {F} {key} {s = s} {t = t} r round = record {
+  first = r.first;
+  removals = r.removals;
   states = r.states ++ (t ∷ []);
-  steps = StepsTo-more (IsTurn F key) r.states (run_start F key N) s t r.steps turn;
+  steps = StepsTo-more (IsRound F key) r.states r.first s t r.steps round;
   made = let made = r.made in let long = length-append r.states (t ∷ []) in omega (arith, made, long);
 }
+
+-- The removals behind a turn.
+pub after-removals : {K R : Type 0} {F : Field} {key : List ℕ → List ℕ} {N : List Polynomial} {turns : ℕ} (old new : Run K R) → IsTurned F key N turns old → new.members.items ≡ old.members.items
+    → ((s : definition.Run) → IsPendingOf key s old.pending → (t : definition.Run) × AreRemovals key s t × (t.members ≡ s.members) × IsPendingOf key t new.pending)
+    → IsAfter F key N (suc turns) new
+after-removals {F = F} {key = key} {N = N} old new turned same removed =
+    let end = removed turned.state turned.pending in
+    record {
+      given = turned.given;
+      state = end.0;
+      run = IsRun-more turned.run (record { turned = turned.state; turn = turned.turn; removals = end.1 });
+      members = end.2 ∙ turned.members ∙ ap sugared_members (sym same);
+      leads = end.3.leads;
+      pending = end.3.pairs;
+      traced = subst (All (IsTraced F N)) (sym same) turned.traced;
+    }
 
 module _ {F : Field} (L : IsField F) {key : List ℕ → List ℕ} (O : IsMonomialOrder key) {N : List Polynomial} (A : ArePolynomials F N) {turns : ℕ} {s : definition.Run} (r : IsRun F key N turns s) where
   -- The pending pairs of a run are of places of members, the first before the second.
@@ -63,36 +83,43 @@ module _ {F : Field} (L : IsField F) {key : List ℕ → List ℕ} (O : IsMonomi
       (both.0, omega (arith, both.1, long))
 
 module _ {K R : Type 0} {F : Field} (L : IsField F) {key : List ℕ → List ℕ} (O : IsMonomialOrder key) {N : List Polynomial} {turns : ℕ} {old : Run K R} (after : IsAfter F key N turns old) (p : Pair R)
-    (rest : List (Pair R)) (removal : old.pending.keys ≡ p ∷ rest) where
+    (rest : PendingPairs R) (removal : old.pending.pairs ≡ p ∷ rest.pairs) where
   abbrev items : List (Member K R)
   items = old.members.items
 
-  pending : ArePending key after.state (p ∷ rest)
+  pending : ArePending key after.state (p ∷ rest.pairs)
   pending = subst (ArePending key after.state) removal after.pending
 
   -- The places of the first pair.
   pub first-places : (p.i < p.j) × (p.j < length items)
   first-places =
-      let own = (All-head (λ q. IsPairOf key after.state.members q × Contains after.state.pending (q.i, q.j)) p rest pending.sound).1 in
+      let own = (All-head (λ q. IsPairOf key after.state.members q × Contains after.state.pending (q.i, q.j)) p rest.pairs pending.sound).1 in
       let both = pending-places L O after.given after.run p.i p.j own in
       (both.0, omega (arith, both.1, ap length after.members, length-map items sugared))
 
-  module _ (above : All (λ q. order_of_pairs key p q ≡ Less) rest) where
+  module _ (above : All (λ q. order_of_pairs key p q ≡ Less) rest.pairs) (leads : rest.leads ≡ old.pending.leads) where
     abbrev s : definition.Run
     s = after.state
 
     next : IsNext key s (p.i, p.j)
-    next = IsNext-first key s p rest pending above
+    next = IsNext-first key s p rest.pairs pending above
+
+    -- What is pending without the pair.
+    left : IsPendingOf key (drop_pair s (p.i, p.j)) rest
+    unfolding drop_pair
+    left = record { leads = leads ∙ after.leads; pairs = ArePending-drop key s p rest.pairs pending above }
 
     -- A turn in which the pair is dropped.
-    pub after-dropped : (new : Run K R) → new.members.items ≡ items → new.pending.keys ≡ rest → has_coprime_leads key (sugared_members items) (p.i, p.j) ≡ true → IsAfter F key N (suc turns) new
+    pub after-dropped : (new : Run K R) → new.members.items ≡ items → new.pending ≡ rest → has_coprime_leads key (sugared_members items) (p.i, p.j) ≡ true → IsTurned F key N turns new
     unfolding drop_pair
-    after-dropped new same keys coprime = record {
+    after-dropped new same are coprime = record {
       given = after.given;
+      before = s;
+      run = after.run;
       state = drop_pair s (p.i, p.j);
-      run = IsRun-more after.run (dropped (p.i, p.j) next (ap (λ G. has_coprime_leads key G (p.i, p.j)) after.members ∙ coprime) refl);
+      turn = dropped (p.i, p.j) next (ap (λ G. has_coprime_leads key G (p.i, p.j)) after.members ∙ coprime) refl;
       members = after.members ∙ ap sugared_members (sym same);
-      pending = subst (ArePending key (drop_pair s (p.i, p.j))) (sym keys) (ArePending-drop key s p rest pending above);
+      pending = subst (IsPendingOf key (drop_pair s (p.i, p.j))) (sym are) left;
       traced = subst (All (IsTraced F N)) (sym same) after.traced;
     }
 
@@ -113,42 +140,44 @@ module _ {K R : Type 0} {F : Field} (L : IsField F) {key : List ℕ → List ℕ
       low-state {d} D = subst (λ G. IsLowDivision F key G (s_polynomial F key G (p.i, p.j)) d) (sym after.members) D
 
       -- A turn in which nothing remains.
-      pub after-empty : (new : Run K R) → new.members.items ≡ items → new.pending.keys ≡ rest → IsNextMember F key items (p.i, p.j) None → IsAfter F key N (suc turns) new
+      pub after-empty : (new : Run K R) → new.members.items ≡ items → new.pending ≡ rest → IsNextMember F key items (p.i, p.j) None → IsTurned F key N turns new
       unfolding drop_pair treat_pair
-      after-empty new same keys found =
+      after-empty new same are found =
           let none : (len found.last.remainder == 0) ≡ true = eq-eqb (len found.last.remainder) 0 (ap len found.found ∙ len-empty (slice_cmp nat_cmp) ℕ) in
           record {
             given = after.given;
+            before = s;
+            run = after.run;
             state = drop_pair s (p.i, p.j);
-            run = IsRun-more after.run (treated (p.i, p.j) found.last next common_state (low-state found.division)
-                (ap (λ t. cond t (drop_pair s (p.i, p.j)) (append_member (drop_pair s (p.i, p.j)) (monic_member F key (record { polynomial = found.last.remainder; sugar = found.last.sugar })))) (sym none)));
+            turn = treated (p.i, p.j) found.last next common_state (low-state found.division)
+                (ap (λ t. cond t (drop_pair s (p.i, p.j)) (append_member (drop_pair s (p.i, p.j)) (monic_member F key (record { polynomial = found.last.remainder; sugar = found.last.sugar })))) (sym none));
             members = after.members ∙ ap sugared_members (sym same);
-            pending = subst (ArePending key (drop_pair s (p.i, p.j))) (sym keys) (ArePending-drop key s p rest pending above);
+            pending = subst (IsPendingOf key (drop_pair s (p.i, p.j))) (sym are) left;
             traced = subst (All (IsTraced F N)) (sym same) after.traced;
           }
 
       -- A turn in which a member is appended.
-      pub after-appended : (new : Run K R) (m : Member K R) → new.members.items ≡ items ++ (m ∷ []) → HasPairsWith key (sugared_members new.members.items) (length items) rest new.pending.keys
-          → IsNextMember F key items (p.i, p.j) (Some m) → IsAfter F key N (suc turns) new
+      pub after-appended : (new : Run K R) (m : Member K R) → new.members.items ≡ items ++ (m ∷ []) → new.pending.leads ≡ rest.leads ++ (lead_exponents key m.polynomial ∷ [])
+          → HasPairsWith new.pending.leads (length rest.leads) rest.pairs new.pending.pairs → IsNextMember F key items (p.i, p.j) (Some m) → IsTurned F key N turns new
       unfolding drop_pair treat_pair append_member
-      after-appended new m whole pairs found =
-          let dropped_state = drop_pair s (p.i, p.j) in
+      after-appended new m whole grown pairs found =
           let d = found.last in
           let member = monic_member F key (record { polynomial = d.remainder; sugar = d.sugar }) in
           let some : (len d.remainder == 0) ≡ false = ne_eqb (len d.remainder) 0 (λ z. found.found.0 (empty_of_len d.remainder z)) in
-          let count : length items ≡ length s.members = sym (ap length after.members ∙ length-map items sugared) in
           let are : sugared_members new.members.items ≡ s.members ++ (member ∷ []) =
           ap sugared_members whole ∙ map-append sugared items (m ∷ []) ∙ ap₂ (λ G g. G ++ (g ∷ [])) (sym after.members) found.found.1 in
           let places = first-places in
           let good = subst (AreGood F key) after.members (IsRun-AreGood L O after.given after.run) in
           record {
             given = after.given;
+            before = s;
+            run = after.run;
             state = append_member (drop_pair s (p.i, p.j)) member;
-            run = IsRun-more after.run (treated (p.i, p.j) d next common_state (low-state found.division) (ap (λ t. cond t (drop_pair s (p.i, p.j)) (append_member (drop_pair s (p.i, p.j)) member)) (sym some)));
+            turn = treated (p.i, p.j) d next common_state (low-state found.division) (ap (λ t. cond t (drop_pair s (p.i, p.j)) (append_member (drop_pair s (p.i, p.j)) member)) (sym some));
             members = sym are;
-            pending = ArePending-append key (drop_pair s (p.i, p.j)) member rest new.pending.keys
-                (λ i j c. pending-places L O after.given after.run i j (contains_filter (λ other. not (other.0 == p.i && other.1 == p.j)) s.pending (i, j) c).0)
-                (ArePending-drop key s p rest pending above) (subst₂ (λ G n. HasPairsWith key G n rest new.pending.keys) are count pairs);
+            pending = IsPendingOf-append key (drop_pair s (p.i, p.j)) member rest new.pending
+                (λ i j c. pending-places L O after.given after.run i j (contains_filter (λ other. not (other.0 == p.i && other.1 == p.j)) s.pending (i, j) c).0) left
+                (grown ∙ ap (λ g. rest.leads ++ (lead_exponents key g.polynomial ∷ [])) found.found.1) pairs;
             traced = gathered_all (IsTraced F N) items new.members.items m after.traced
                 (next-IsTraced L O after.given items good after.traced p.i p.j (omega (arith, places.0, places.1)) places.1 d found.division m found.found.0 found.found.1 found.found.2) whole;
           }

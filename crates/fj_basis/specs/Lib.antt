@@ -4,6 +4,7 @@ pub mod Quotients
 pub mod Members
 pub mod Place
 pub mod PlaceLaws
+pub mod Pending
 pub mod State
 pub mod Outcome
 pub mod Finished

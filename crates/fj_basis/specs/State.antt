@@ -4,7 +4,7 @@ use Rattle.std.specs.FinMap.{empty}
 use Rattle.fj_coeff.specs.Field.{Field}
 use Rattle.fj_theory.specs.Exponents.{origin, minus}
 use Rattle.fj_theory.specs.Polynomial.{Polynomial, negation, product, term}
-use Rattle.fj_theory.specs.Lead.{lead_coefficient}
+use Rattle.fj_theory.specs.Lead.{lead_coefficient, lead_exponents}
 use Rattle.fj_groebner.specs.Rows.{add_multiple, add_multiples}
 use Rattle.fj_theory.specs.Ideal.{ArePolynomials}
 use Rattle.fj_groebner.specs.Division.{Sugared, Division, IsLowDivision, degree_limit}
@@ -13,6 +13,7 @@ use Rattle.fj_basis.specs.declared.pairs.Pair.{Pair}
 use Rattle.fj_basis.specs.declared.members.Member.{Member}
 use Rattle.fj_basis.specs.declared.run.Run.{Run}
 use Rattle.fj_basis.specs.Place.{IsWithinLimit}
+use Rattle.fj_basis.specs.Pending.{HasPair, PendingPairs}
 use Rattle.fj_basis.specs.Members.{sugared, sugared_members, IsTraced}
 
 -- The pair with the least common multiple of its leads.
@@ -22,7 +23,16 @@ pub record IsPairOf {O : Type 0} (key : List ℕ → List ℕ) (G : List Sugared
 -- The pairs of the list are the pending ones.
 pub record ArePending {O : Type 0} (key : List ℕ → List ℕ) (s : definition.Run) (pairs : List (Pair O)) : Type 0 where
   pub sound : All (λ p. IsPairOf key s.members p × Contains s.pending (p.i, p.j)) pairs
-  pub complete : (pair : ℕ × ℕ) → Contains s.pending pair → (p : Pair O) × Contains pairs p × (p.i ≡ pair.0) × (p.j ≡ pair.1)
+  pub complete : (pair : ℕ × ℕ) → Contains s.pending pair → HasPair pairs pair.0 pair.1
+
+-- The exponents of the leads.
+abbrev pub leads_of : (List ℕ → List ℕ) → List Sugared → List (List ℕ)
+leads_of key G = map (λ g. lead_exponents key g.polynomial) G
+
+-- The leads and the pending pairs are those of the run.
+pub record IsPendingOf {O : Type 0} (key : List ℕ → List ℕ) (s : definition.Run) (p : PendingPairs O) : Type 0 where
+  pub leads : p.leads ≡ leads_of key s.members
+  pub pairs : ArePending key s p.pairs
 
 -- The run on the list L, after this number of turns.
 pub record IsAfter {K O : Type 0} (F : Field) (key : List ℕ → List ℕ) (L : List Polynomial) (turns : ℕ) (s : Run K O) : Type 0 where
@@ -30,18 +40,20 @@ pub record IsAfter {K O : Type 0} (F : Field) (key : List ℕ → List ℕ) (L :
   pub state : definition.Run
   pub run : definition.IsRun F key L turns state
   pub members : state.members ≡ sugared_members s.members.items
-  pub pending : ArePending key state s.pending.keys
+  pub leads : s.pending.leads ≡ leads_of key state.members
+  pub pending : ArePending key state s.pending.pairs
   pub traced : All (IsTraced F L) s.members.items
 
--- The pairs of the place j with the first n places have come to be pending.
-pub record HasPairsUpTo {O : Type 0} (key : List ℕ → List ℕ) (G : List Sugared) (j n : ℕ) (before after : List (Pair O)) : Type 0 where
-  pub kept : All (Contains after) before
-  pub new : (i : ℕ) → i < n → (p : Pair O) × Contains after p × (p.i ≡ i) × (p.j ≡ j)
-  pub sound : All (λ p. Contains before p ⊎ (IsPairOf key G p × (p.i < j) × (p.j ≡ j))) after
-
--- Its pairs with all places before it.
-abbrev pub HasPairsWith : {O : Type 0} → (List ℕ → List ℕ) → List Sugared → ℕ → List (Pair O) → List (Pair O) → Type 0
-HasPairsWith key G j before after = HasPairsUpTo key G j j before after
+-- The run on the list L, after this number of turns and one more whose removals are still to come.
+pub record IsTurned {K O : Type 0} (F : Field) (key : List ℕ → List ℕ) (L : List Polynomial) (turns : ℕ) (s : Run K O) : Type 0 where
+  pub given : ArePolynomials F L
+  pub before : definition.Run
+  pub run : definition.IsRun F key L turns before
+  pub state : definition.Run
+  pub turn : definition.IsTurn F key before state
+  pub members : state.members ≡ sugared_members s.members.items
+  pub pending : IsPendingOf key state s.pending
+  pub traced : All (IsTraced F L) s.members.items
 
 -- The cofactors of the member at a place.
 unfoldable pub row_at : {K O : Type 0} → List (Member K O) → ℕ → List Polynomial
@@ -84,4 +96,4 @@ pub record IsEnded {K O : Type 0} (F : Field) (key : List ℕ → List ℕ) (L :
   pub turns : ℕ
   pub within : turns ≤ budget
   pub after : IsAfter F key L turns s
-  pub none : s.pending.keys ≡ []
+  pub none : s.pending.pairs ≡ []

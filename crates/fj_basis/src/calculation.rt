@@ -87,7 +87,8 @@ fn finished<K: Coeff, O: Order>(
 
 /// The reduced Gröbner basis of the ideal of a list for the order O, rising by lead, with the cofactors of its members
 /// over the list and of the list over the members, by Buchberger's algorithm with at most `pairs` turns (Cox, Little and
-/// O'Shea 2015, chapter 2, section 7).
+/// O'Shea 2015, chapter 2, section 7). A pair that the chain criterion spares is removed without a turn (Buchberger 1979;
+/// Gebauer and Möller 1988).
 ///
 /// `Pairs` exactly where that many turns were made and pairs are pending, `High` exactly where a sugar above 2^40 arises
 /// within these turns or, where no pair is then pending, in finishing. Both keep the list, the terms falling in O. `Product`

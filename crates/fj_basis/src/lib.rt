@@ -12,6 +12,7 @@ mod handed;
 mod leads;
 mod members;
 mod pairs;
+mod pending;
 mod run;
 mod stop;
 pub mod types;

@@ -2,6 +2,7 @@ ghost use Rattle.std.specs.Prelude.{◌≡◌, ◌≢◌, ◌+◌, ◌-◌, ◌<
 ghost use Rattle.std.specs.FinMap.{empty};
 ghost use Rattle.fj_theory.specs.Exponents.{divides, minus, total};
 ghost use Rattle.fj_theory.specs.Ideal.{ArePolynomials};
+ghost use Rattle.fj_theory.specs.Lead.{lead_exponents};
 ghost use Rattle.fj_theory.specs.Polynomial.{Polynomial, product, term};
 ghost use Rattle.fj_groebner.specs.Rows.{add_multiple};
 ghost use Rattle.fj_groebner.specs.Division.{IsHighDivision, degree_limit, member_at};
@@ -9,8 +10,9 @@ ghost use Rattle.fj_groebner.specs.Run.{are_coprime, has_coprime_leads, lead_of,
 ghost use Rattle.fj_basis.specs.Finished.{AreMembersOfRun};
 ghost use Rattle.fj_basis.specs.Members.{sugared_members};
 ghost use Rattle.fj_basis.specs.Outcome.{IsHighOnlyWhere};
+ghost use Rattle.fj_basis.specs.Pending.{HasPairsWith};
 ghost use Rattle.fj_basis.specs.Quotients.{AreQuotientsWithin};
-ghost use Rattle.fj_basis.specs.State.{HasPairsWith, IsAfter, IsFirstMember, IsHighNext, IsNextMember, IsPairOf, IsState, row_at, s_polynomial_row};
+ghost use Rattle.fj_basis.specs.State.{IsAfter, IsFirstMember, IsHighNext, IsNextMember, IsPairOf, IsState, IsTurned, row_at, s_polynomial_row};
 
 use crate::cofactors::{add_multiple, row_of_one, scale_row, subtract_multiples, zero_row};
 use crate::division::divide_sugared;
@@ -18,40 +20,42 @@ use crate::divisor::Divisor;
 use crate::handed::{look_over, sugar_of};
 use crate::members::{Member, Row};
 use crate::pairs::Pair;
+use crate::pending::Pending;
 use fj_coeff::Coeff;
 use fj_mono::{DEGREE_LIMIT, Mono, Order};
 use fj_poly::{Poly, PolyFault};
 use std::alloc::{AllocError, Global};
-use std::collections::BTreeSet;
 
 /// The state of a run: the members found so far, and the pending pairs of their places.
 #[derive(Drop)]
 pub(crate) struct Run<K: Coeff, O: Order> {
     members: Vec<Member<K, O>>,
-    pending: BTreeSet<Pair<O>>,
+    pending: Pending<O>,
 }
 
 impl<K: Coeff, O: Order> Run<K, O> {
-    /// The run on a list begins with those of its polynomials that aren't zero, made monic, and with all pairs.
+    /// The run on a list begins with those of its polynomials that aren't zero, made monic, and with all pairs but those
+    /// that are spared.
     pub(crate) fn start(alloc: Global, list: &[Poly<K, O>]) -> Result<Run<K, O>, AllocError>
         ensures { IfOk result (IsAfter K.field O.key list.now 0) }
     {
         look_over(list);
         let mut run = Run {
             members: Vec::new(alloc),
-            pending: BTreeSet::new(alloc),
+            pending: Pending::new(alloc),
         };
         for j in 0..list.len() {
             if let Some(member) = first_member(alloc, list, j)? {
-                run.append(member)?;
+                run.append(alloc, member)?;
             }
         }
+        run.pending.remove_spared();
         Ok(run)
     }
 
     /// Whether no pair is pending.
     pub(crate) fn is_done(&self) -> bool
-        ensures { IsTrue result ↔ (self.now.pending.keys ≡ []) }
+        ensures { IsTrue result ↔ (self.now.pending.pairs ≡ []) }
     {
         self.pending.is_empty()
     }
@@ -63,20 +67,32 @@ impl<K: Coeff, O: Order> Run<K, O> {
         self.members
     }
 
-    /// One turn: the next pair is dropped where its leads are coprime, else its S-polynomial is divided by the members,
-    /// and a remainder that isn't zero is made monic and appended.
+    /// One turn, and then the next pair is removed as long as it is spared, which is no turn.
     pub(crate) fn turn(&mut self, alloc: Global) -> Result<(), PolyFault>
         requires state { IsState K.field O.key self.old }
-        requires pending { self.old.pending.keys ≢ [] }
+        requires pending { self.old.pending.pairs ≢ [] }
         ensures turn { OnOk result ((L : List Polynomial) (turns : ℕ) → IsAfter K.field O.key L turns self.old → IsAfter K.field O.key L (suc turns) self.new) }
         ensures high { IsHighOnlyWhere (IsHighNext K.field O.key self.old) result }
     {
-        let pair = self.pending.pop_first().unwrap();
+        self.treat_next(alloc)?;
+        self.pending.remove_spared();
+        Ok(())
+    }
+
+    // The next pair is dropped where its leads are coprime, else its S-polynomial is divided by the members, and a remainder
+    // that isn't zero is made monic and appended.
+    fn treat_next(&mut self, alloc: Global) -> Result<(), PolyFault>
+        requires state { IsState K.field O.key self.old }
+        requires pending { self.old.pending.pairs ≢ [] }
+        ensures turn { OnOk result ((L : List Polynomial) (turns : ℕ) → IsAfter K.field O.key L turns self.old → IsTurned K.field O.key L turns self.new) }
+        ensures high { IsHighOnlyWhere (IsHighNext K.field O.key self.old) result }
+    {
+        let pair = self.pending.take_next();
         if self.has_coprime_leads(&pair) {
             return Ok(());
         }
         if let Some(member) = self.next_member(alloc, &pair)? {
-            self.append(member)?;
+            self.append(alloc, member)?;
         }
         Ok(())
     }
@@ -119,18 +135,13 @@ impl<K: Coeff, O: Order> Run<K, O> {
     }
 
     // Appends a member, and its pairs with all earlier members become pending.
-    fn append(&mut self, member: Member<K, O>) -> Result<(), AllocError>
-        requires nonzero { All (λ m. m.polynomial ≢ empty) self.old.members.items }
-        requires member { member.polynomial ≢ empty }
+    fn append(&mut self, alloc: Global, member: Member<K, O>) -> Result<(), AllocError>
+        requires { member.polynomial ≢ empty }
         ensures members { OnOk result (self.new.members.items ≡ self.old.members.items ++ member ∷ []) }
-        ensures pending { OnOk result (HasPairsWith O.key (sugared_members self.new.members.items) (length self.old.members.items) self.old.pending.keys self.new.pending.keys) }
+        ensures leads { OnOk result (self.new.pending.leads ≡ self.old.pending.leads ++ lead_exponents O.key member.polynomial ∷ []) }
+        ensures pending { OnOk result (HasPairsWith self.new.pending.leads (length self.old.pending.leads) self.old.pending.pairs self.new.pending.pairs) }
     {
-        let lead = member.lead();
-        let j = self.members.len();
-        for i in 0..j {
-            self.pending
-                .insert(Pair::new(i, j, &self.members[i].lead(), &lead))?;
-        }
+        self.pending.add(alloc, member.lead())?;
         self.members.push(member)?;
         Ok(())
     }

@@ -1,3 +1,4 @@
+//! Finite fields, each element by its rank.
 ghost use Rattle.std.specs.Prelude.{◌≡◌, ◌≢◌, ◌<◌, ◌↔◌, ◌==◌, ℕ, Bool};
 ghost use Rattle.fj_coeff.specs.Field.{Field, IsField};
 

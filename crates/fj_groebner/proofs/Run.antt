@@ -1,5 +1,5 @@
 -- What each turn of a run keeps: the members are monic and generate the ideal, and each pair is settled or pending.
-use Rattle.std.proofs.Common.{◌≡◌, ◌≢◌, ◌⊎◌, inl, inr, ℕ, ◌<◌, ◌==◌, ◌&&◌, not, Bool, true, false, cond, get_or, List, [], ◌∷◌, ◌++◌, length, length-append, map, filter, All, Contains, refl, sym, ap, ap₂, ◌∙◌, subst, subst₂, arith, true≢false}
+use Rattle.std.proofs.Common.{◌≡◌, ◌≢◌, ◌⊎◌, inl, inr, ℕ, ◌<◌, ◌==◌, ◌&&◌, not, Bool, IsTrue, true, false, cond, get_or, List, [], ◌∷◌, ◌++◌, length, length-append, map, filter, All, Contains, refl, sym, ap, ap₂, ◌∙◌, subst, subst₂, arith, true≢false}
 use Rattle.std.specs.List.{flat_map, range_with_len}
 use Rattle.std.specs.FinMap.{empty, len, empty_of_len, len-empty}
 use Rattle.std.specs.Cmp.Lexicographic.{slice_cmp}
@@ -19,9 +19,11 @@ use Rattle.fj_algebra.proofs.Ideal as ideal_laws
 use Rattle.fj_algebra.proofs.Leads.{made_monic_is, made_monic_back}
 use Rattle.fj_algebra.proofs.Division.{division_remainder, difference_back}
 use Rattle.fj_algebra.proofs.Criteria.{Settled-coprime, Settled-by_division, covers_from_settled}
-use Rattle.fj_algebra.proofs.Pending.{settle_pair, append_pending, none_pending}
+use Rattle.fj_algebra.proofs.Order.{Divides-trans}
+use Rattle.fj_algebra.proofs.Polynomial.{lead_from_monic}
+use Rattle.fj_algebra.proofs.Pending.{SettledAt-chain, settled_if_not_pending, settle_pair, append_pending, none_pending}
 use Rattle.fj_algebra.proofs.Pairs.{contains_map, contains_map_back, contains_filter, filter_contains, contains_cons, contains_head, contains_tail, contains_nil, All-from_elements}
-use Rattle.fj_theory.specs.Exponents.{origin, minus, least_common_multiple}
+use Rattle.fj_theory.specs.Exponents.{origin, divides, minus, least_common_multiple}
 use Rattle.fj_theory.specs.MonomialOrder.{IsMonomialOrder}
 use Rattle.fj_theory.specs.Polynomial.{difference, Polynomial, IsPolynomial, term, product}
 use Rattle.fj_theory.specs.Ideal.{ArePolynomials, Member, SameIdeal}
@@ -29,13 +31,13 @@ use Rattle.fj_groebner.specs.ReducedBasis.{LeadDivides}
 use Rattle.fj_theory.specs.Steps.{StepsTo}
 use Rattle.fj_theory.specs.Lead.{lead_exponents, lead_coefficient, made_monic}
 use Rattle.fj_groebner.specs.Division.{polynomials_of, Division, member_at, IsDivision}
-use Rattle.fj_groebner.specs.Run.{Run, given, monic_member, first_members, run_start, pairs_with, lead_of, pair_multiple, are_coprime, has_coprime_leads, s_polynomial, drop_pair, append_member, treat_pair, IsTurn, dropped, treated, IsRun}
+use Rattle.fj_groebner.specs.Run.{Run, given, monic_member, first_members, run_start, pairs_with, lead_of, pair_multiple, are_coprime, has_coprime_leads, s_polynomial, drop_pair, append_member, treat_pair, IsSpared, IsRemoval, AreRemovals, IsTurn, dropped, treated, IsRound, IsRun}
 use Rattle.fj_theory.proofs.Exponents.{plus_comm, plus-minus, IsExponents-minus}
 use Rattle.fj_theory.proofs.Field.{Element, element_equal, field_ring, rank_zero, rank_one, rank_mul}
 use Rattle.fj_theory.proofs.PolynomialRing.{map_subtract, PolynomialOver, over_equal, polynomial_ring, map_zero, map_mul}
 use Rattle.fj_theory.proofs.OrderedPolynomials.{Exponents, exponents_equal, times, monomials, scalars, coefficient_at, term_at, polynomials, ordered_polynomials}
 use Rattle.fj_theory.proofs.IdealBridge.{over, maps, InRing, in_ring, ArePolynomials-InRing, SameIdeal_map, Member_over, Member_polynomial}
-use Rattle.fj_theory.proofs.Lead.{is_zero_map, lead_at, IsLead-from_lead, lead_from_IsLead, coefficient-lead, lead_coefficient-nonzero, divides-from_Divides}
+use Rattle.fj_theory.proofs.Lead.{is_zero_map, lead_at, IsLead-from_lead, lead_from_IsLead, coefficient-lead, lead_coefficient-nonzero, divides-from_Divides, Divides-from_divides}
 use Rattle.fj_groebner.proofs.ReducedBasis.{LeadDivides-from_IsReducible, IsMonic-from_lead, lead-from_IsMonic, monic_nonzero}
 use Rattle.fj_groebner.proofs.Elimination.{filter-map}
 use Rattle.fj_theory.proofs.Steps.{StepsTo-keeps}
@@ -200,6 +202,29 @@ module _ {key : List ℕ → List ℕ} (K : IsMonomialOrder key) {F : Field} (L 
           (common_multiple-is_least (lead i) (lead j)));
     }
 
+    -- A spared pair is settled through the third place.
+    spared_settled : (i j : ℕ) → i < length kept.over.list → j < length kept.over.list → IsSpared key s (i, j) → buchberger.SettledAt P kept.over.list i j
+    unfolding ordered_polynomials polynomials member lead lead_at pair_multiple common_multiple
+    spared_settled i j l k spared =
+        SettledAt-chain P i j c (lead_from_monic P (member_monic i l)) (lead_from_monic P (member_monic j k)) (lead_from_monic P (member_monic c place)) through
+        (settled_if_not_pending P i c (λ e. spared.not_first (sym e)) l place (λ p. spared.first_done (inl p)) (λ p. spared.first_done (inr p)) kept.settled)
+        (settled_if_not_pending P j c (λ e. spared.not_second (sym e)) k place (λ p. spared.second_done (inl p)) (λ p. spared.second_done (inr p)) kept.settled)
+      where
+        c : ℕ
+        c = spared.place
+
+        place : c < length kept.over.list
+        place = let h = spared.is_place in omega (arith, h, same_length K L s.members kept.over nonzero)
+
+        multiple_is : pair_multiple key s.members (i, j) ≡ (common_multiple (lead i) (lead j)).list
+        multiple_is = ap₂ least_common_multiple (lead_is i) (lead_is j)
+
+        through : (d : Exponents) → order.Divides monomials (lead i) d → order.Divides monomials (lead j) d → order.Divides monomials (lead c) d
+        through d p q =
+            Divides-trans
+            (Divides-from_divides (lead c) (common_multiple (lead i) (lead j)) (subst₂ (λ a b. IsTrue (divides a b)) (lead_is c) multiple_is spared.lead_divides))
+            ((common_multiple-is_least (lead i) (lead j)).least d p q)
+
     -- The factor of the member k in the difference of the pair (i, j).
     unfoldable pub factor : ℕ → ℕ → ℕ → Exponents
     factor i j k = record {
@@ -361,6 +386,19 @@ module _ {key : List ℕ → List ℕ} (K : IsMonomialOrder key) {F : Field} (L 
       let l : p.0 < length kept.over.list = omega (arith, in_list.0, in_list.1) in
       subst (IsKept M) (sym e) (treat_kept M s kept p.0 p.1 l in_list.1 d (treated_over M s kept p.0 p.1 d w.division))
 
+  -- So does a removal.
+  pub IsKept-IsRemoval : (M : List (PolynomialOver F)) (s t : Run) → IsRemoval key s t → IsKept M s → IsKept M t
+  IsKept-IsRemoval M s t h kept =
+      let p = h.pair in
+      let in_list = kept.places p.0 p.1 h.next.pending in
+      subst (IsKept M) (sym h.removed) (drop_kept M s kept p.0 p.1 (spared_settled M s kept p.0 p.1 (omega (arith, in_list.0, in_list.1)) in_list.1 h.spared))
+
+  pub IsKept-AreRemovals : (M : List (PolynomialOver F)) (s t : Run) → AreRemovals key s t → IsKept M s → IsKept M t
+  IsKept-AreRemovals M s t h kept = StepsTo-keeps (IsRemoval key) (IsKept M) (IsKept-IsRemoval M) h.states s t h.steps kept
+
+  IsKept-IsRound : (M : List (PolynomialOver F)) (s t : Run) → IsRound F key s t → IsKept M s → IsKept M t
+  IsKept-IsRound M s t h kept = IsKept-AreRemovals M h.turned t h.removals (IsKept-IsTurn M s h.turned h.turn kept)
+
   -- Where no pair is pending the leads of the members divide the leads of all members of the ideal.
   pub IsKept-covers : (M : List (PolynomialOver F)) (s : Run) (kept : IsKept M s) → s.pending ≡ [] → buchberger.CoversLeads P M (Contains kept.over.list)
   IsKept-covers M s kept e =
@@ -431,8 +469,8 @@ module _ {key : List ℕ → List ℕ} (K : IsMonomialOrder key) {F : Field} (L 
   -- Each state of a run on the list keeps it.
   pub IsRun-IsKept : {M : List Polynomial} (X : InRing F M) {turns : ℕ} {s : Run} → IsRun F key M turns s → IsKept X.list s
   IsRun-IsKept {M} X {turns} {s} r =
-      StepsTo-keeps (IsTurn F key) (IsKept X.list) (λ s t h kept. IsKept-IsTurn X.list s t h kept) r.states (run_start F key (maps X.list)) s
-      (subst (λ m. StepsTo (IsTurn F key) (run_start F key m) r.states s) (sym X.are) r.steps) (start_kept X.list)
+      StepsTo-keeps (IsRound F key) (IsKept X.list) (IsKept-IsRound X.list) r.states r.first s r.steps
+      (IsKept-AreRemovals X.list (run_start F key (maps X.list)) r.first (subst (λ m. AreRemovals key (run_start F key m) r.first) (sym X.are) r.removals) (start_kept X.list))
 
   -- The members of a state of a run generate the ideal.
   pub IsRun-SameIdeal : {M : List Polynomial} → ArePolynomials F M → {turns : ℕ} {s : Run} → IsRun F key M turns s → SameIdeal F M (polynomials_of s.members)

@@ -19,7 +19,7 @@ use Rattle.fj_theory.specs.Ideal.{ArePolynomials}
 use Rattle.fj_theory.specs.Lead.{lead_exponents, lead_coefficient, made_monic}
 use Rattle.fj_theory.specs.Steps.{StepsTo}
 use Rattle.fj_groebner.specs.Division.{Sugared, Division, member_at, division_start, IsDivisionStep, IsDivision, DegreeAtMost, AreWithinSugars, polynomials_of, IsWithinSugar}
-use Rattle.fj_groebner.specs.Run.{Run, given, monic_member, first_members, run_start, lead_of, pair_multiple, s_polynomial, drop_pair, append_member, treat_pair, IsTurn, dropped, treated, IsRun}
+use Rattle.fj_groebner.specs.Run.{Run, given, monic_member, first_members, run_start, lead_of, pair_multiple, s_polynomial, drop_pair, append_member, treat_pair, IsRemoval, AreRemovals, IsTurn, dropped, treated, IsRound, IsRun}
 use Rattle.fj_theory.proofs.Exponents.{total-plus_exponents, total_origin}
 use Rattle.fj_theory.proofs.Field.{Element}
 use Rattle.fj_theory.proofs.PolynomialRing.{PolynomialOver}
@@ -29,7 +29,7 @@ use Rattle.fj_theory.proofs.Lead.{lead_at, coefficient-lead}
 use Rattle.fj_groebner.proofs.Multiple.{common_multiple, common_multiple-is_least}
 use Rattle.fj_theory.proofs.Steps.{StepsTo-keeps}
 use Rattle.fj_groebner.proofs.Division.{IsWithinSugar-StepsTo, IsDivision-remainder_polynomial, same_length}
-use Rattle.fj_groebner.proofs.Run.{IsKept, IsKept-IsTurn, start_kept, monic_over, monic_over-map, member, nonzero, in_members, member_is, lead_is, lead, factor, factor_times, s_over, s_over-map, s_polynomial-IsPolynomial}
+use Rattle.fj_groebner.proofs.Run.{IsKept, IsKept-IsTurn, IsKept-IsRemoval, start_kept, monic_over, monic_over-map, member, nonzero, in_members, member_is, lead_is, lead, factor, factor_times, s_over, s_over-map, s_polynomial-IsPolynomial}
 
 module _ {F : Field} (L : IsField F) where
   -- A polynomial that is handed in is within its sugar.
@@ -181,13 +181,26 @@ module _ {F : Field} (L : IsField F) where
     IsWithinKept : List (PolynomialOver F) → Run → Type 0
     IsWithinKept M s = IsKept K L M s × AreWithinSugars s.members
 
+    IsWithinKept-AreRemovals : (M : List (PolynomialOver F)) (s t : Run) → AreRemovals key s t → IsWithinKept M s → IsWithinKept M t
+    unfolding IsWithinKept drop_pair
+    IsWithinKept-AreRemovals M s t h both =
+        StepsTo-keeps (IsRemoval key) (IsWithinKept M)
+        (λ s t h both. (IsKept-IsRemoval K L M s t h both.0, subst (λ t. AreWithinSugars t.members) (sym h.removed) both.1)) h.states s t h.steps both
+
+    IsWithinKept-IsRound : (M : List (PolynomialOver F)) (s t : Run) → IsRound F key s t → IsWithinKept M s → IsWithinKept M t
+    unfolding IsWithinKept
+    IsWithinKept-IsRound M s t h both =
+        IsWithinKept-AreRemovals M h.turned t h.removals
+        (IsKept-IsTurn K L M s h.turned h.turn both.0, turn_within M s both.0 both.1 h.turned h.turn)
+
     -- In each state of a run each member is within its sugar.
     pub IsRun-AreWithinSugars : {M : List Polynomial} → ArePolynomials F M → {turns : ℕ} {s : Run} → IsRun F key M turns s → AreWithinSugars s.members
     unfolding IsWithinKept
     IsRun-AreWithinSugars {M} A {s = s} r =
         let X = in_ring A in
-        (StepsTo-keeps (IsTurn F key) (IsWithinKept X.list) (λ s t h both. (IsKept-IsTurn K L X.list s t h both.0, turn_within X.list s both.0 both.1 t h)) r.states (run_start F key (maps X.list)) s
-        (subst (λ m. StepsTo (IsTurn F key) (run_start F key m) r.states s) (sym X.are) r.steps) (start_kept K L X.list, first_within X)).1
+        (StepsTo-keeps (IsRound F key) (IsWithinKept X.list) (IsWithinKept-IsRound X.list) r.states r.first s r.steps
+        (IsWithinKept-AreRemovals X.list (run_start F key (maps X.list)) r.first (subst (λ m. AreRemovals key (run_start F key m) r.first) (sym X.are) r.removals)
+        (start_kept K L X.list, first_within X))).1
 
 -- The sugar bounds each state of a division.
 pub StepsTo-IsWithinSugar : {key : List ℕ → List ℕ} (K : IsMonomialOrder key) {F : Field} (L : IsField F) (G : List Sugared) → ArePolynomials F (polynomials_of G)

@@ -14,7 +14,7 @@ use Rattle.fj_theory.specs.Exponents.{total}
 use Rattle.fj_theory.specs.Polynomial.{Polynomial}
 use Rattle.fj_theory.specs.Steps.{StepsTo}
 use Rattle.fj_groebner.specs.Division.{degree_limit, Sugared, Division, IsDivision, IsLowDivision, IsHighDivision}
-use Rattle.fj_groebner.specs.Run.{Run, given, pair_multiple, pair_place, IsNext, has_coprime_leads, IsTurn, dropped, treated, s_polynomial, IsHighTurn, IsRun, Replacing, IsReplacement, IsReplacing, IsFinishing, IsHighFinishing, replacing, dividing, IsFinished, Unfinished, TooHigh, in_turn, in_finishing, drop_pair, treat_pair}
+use Rattle.fj_groebner.specs.Run.{Run, given, run_start, pair_multiple, pair_place, IsNext, has_coprime_leads, IsRemoval, AreRemovals, IsTurn, dropped, treated, IsRound, s_polynomial, IsHighTurn, IsRun, Replacing, IsReplacement, IsReplacing, IsFinishing, IsHighFinishing, replacing, dividing, IsFinished, Unfinished, TooHigh, in_turn, in_finishing, drop_pair, treat_pair}
 use Rattle.fj_theory.proofs.Steps.{StepsTo-unique, StepsTo-further, StepsTo-through, StepsTo-end}
 use Rattle.fj_groebner.proofs.Division.{IsDivision-unique, IsLowDivision-IsHighDivision}
 
@@ -71,6 +71,14 @@ module _ {key : List ℕ → List ℕ} where
   none_next : {s : Run} {p : ℕ × ℕ} → s.pending ≡ [] → IsNext key s p → ⊥
   none_next {s} {p} e h = contains_nil p (subst (λ l. Contains l p) e h.pending)
 
+  IsRemoval-unique : (s t u : Run) → IsRemoval key s t → IsRemoval key s u → t ≡ u
+  IsRemoval-unique s t u h k = h.removed ∙ ap (drop_pair s) (IsNext-unique h.next k.next) ∙ sym k.removed
+
+  -- The removals from a state end in one.
+  pub AreRemovals-unique : (s t u : Run) → AreRemovals key s t → AreRemovals key s u → t ≡ u
+  AreRemovals-unique s t u h k =
+      StepsTo-end (IsRemoval key) IsRemoval-unique h.states k.states s t u h.steps k.steps (λ v r. h.ended r.pair r.next r.spared) (λ v r. k.ended r.pair r.next r.spared)
+
   module _ {F : Field} where
     -- A state has one next state.
     pub IsTurn-unique : (s t u : Run) → IsTurn F key s t → IsTurn F key s u → t ≡ u
@@ -90,6 +98,10 @@ module _ {key : List ℕ → List ℕ} where
     none_pending-IsTurn : {s : Run} → s.pending ≡ [] → (t : Run) → IsTurn F key s t → ⊥
     none_pending-IsTurn e t (dropped p h c f) = none_next e h
     none_pending-IsTurn e t (treated p l h c w f) = none_next e h
+
+    IsRound-unique : (s t u : Run) → IsRound F key s t → IsRound F key s u → t ≡ u
+    IsRound-unique s t u h k =
+        AreRemovals-unique h.turned t u h.removals (subst (λ r. AreRemovals key r u) (IsTurn-unique s k.turned h.turned k.turn h.turn) k.removals)
 
     pub IsReplacement-unique : (s t u : Replacing) → IsReplacement F key s t → IsReplacement F key s u → t ≡ u
     IsReplacement-unique s t u h k =
@@ -126,20 +138,27 @@ module _ {key : List ℕ → List ℕ} where
         IsLowDivision-IsHighDivision low.1 (subst (λ b. IsHighDivision F key b (given found.0)) (sym (IsReplacing-unique G basis other f.replacing r)) found.2)
 
     module _ {L : List Polynomial} where
+      -- Two runs have one first state.
+      same_first : {m n : ℕ} {s t : Run} (h : IsRun F key L m s) (k : IsRun F key L n t) → StepsTo (IsRound F key) h.first k.states t
+      same_first {t = t} h k =
+          subst (λ f. StepsTo (IsRound F key) f k.states t) (AreRemovals-unique (run_start F key L) k.first h.first k.removals h.removals) k.steps
+
       -- As many turns lead to one state.
       pub IsRun-unique : {turns : ℕ} {s t : Run} → IsRun F key L turns s → IsRun F key L turns t → s ≡ t
-      IsRun-unique h k = StepsTo-unique (IsTurn F key) IsTurn-unique h.states k.states _ _ _ (h.made ∙ sym k.made) h.steps k.steps
+      IsRun-unique {s = s} {t = t} h k =
+          StepsTo-unique (IsRound F key) IsRound-unique h.states k.states h.first s t (h.made ∙ sym k.made) h.steps (same_first h k)
 
       -- No run goes on behind a state with no next one.
       run_ends : {m n : ℕ} {s t : Run} → ((u : Run) → IsTurn F key s u → ⊥) → IsRun F key L m s → IsRun F key L n t → n ≤ m
       run_ends {m} {n} {s} {t} stops h k = go (dec_le n m)
         where
-          further : m ≤ n → (zs : List Run) × StepsTo (IsTurn F key) s zs t × (length h.states + length zs ≡ length k.states)
-          further le = StepsTo-further (IsTurn F key) IsTurn-unique h.states k.states _ _ _ (let a = h.made in let b = k.made in omega (arith, a, b, le)) h.steps k.steps
+          further : m ≤ n → (zs : List Run) × StepsTo (IsRound F key) s zs t × (length h.states + length zs ≡ length k.states)
+          further le =
+              StepsTo-further (IsRound F key) IsRound-unique h.states k.states h.first s t (let a = h.made in let b = k.made in omega (arith, a, b, le)) h.steps (same_first h k)
 
-          on : (zs : List Run) → StepsTo (IsTurn F key) s zs t → length h.states + length zs ≡ length k.states → m < n → ⊥
+          on : (zs : List Run) → StepsTo (IsRound F key) s zs t → length h.states + length zs ≡ length k.states → m < n → ⊥
           on [] steps e lt = let a = h.made in let b = k.made in absurd (omega (arith, a, b, e, lt))
-          on (z ∷ zs) steps e lt = stops z steps.0
+          on (z ∷ zs) steps e lt = stops steps.0.turned steps.0.turn
 
           go : Dec (n ≤ m) → n ≤ m
           go (yes le) = le

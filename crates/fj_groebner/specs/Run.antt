@@ -1,6 +1,7 @@
 -- The run that calculates a reduced basis by Buchberger's algorithm: its turns, its finishing, and where it stops.
--- (Cox, Little and O'Shea 2015, chapter 2, section 7)
-use Rattle.std.specs.Prelude.{◌≡◌, ℕ, ◌+◌, ◌-◌, ◌<◌, ◌≤◌, ◌≢◌, ◌==◌, ◌&&◌, ◌||◌, not, nat_le, nat_lt, max, Bool, true, false, if◌then◌else◌, List, [], ◌∷◌, ◌++◌, length, map, filter, All, Any, Contains, unwrap_or}
+-- (Cox, Little and O'Shea 2015, chapter 2, sections 7 and 10; the chain criterion is that of Buchberger 1979, "A criterion
+-- for detecting unnecessary reductions", and of Gebauer and Möller 1988, "On an installation of Buchberger's algorithm")
+use Rattle.std.specs.Prelude.{◌≡◌, ℕ, ◌+◌, ◌-◌, ◌<◌, ◌≤◌, ◌≢◌, ◌==◌, ◌&&◌, ◌||◌, ◌⊎◌, not, nat_le, nat_lt, max, Bool, IsTrue, true, false, if◌then◌else◌, List, [], ◌∷◌, ◌++◌, length, map, filter, All, Any, Contains, unwrap_or}
 use Rattle.std.specs.List.{flat_map, list_any, range_with_len}
 use Rattle.std.specs.Ordering.{nat_cmp, is_gt}
 use Rattle.std.specs.Cmp.Lexicographic.{slice_cmp}
@@ -70,6 +71,21 @@ pub record IsNext (key : List ℕ → List ℕ) (s : Run) (pair : ℕ × ℕ) : 
   pub pending : Contains s.pending pair
   pub least : All (λ other. slice_cmp nat_cmp (pair_place key s.members pair) (pair_place key s.members other) ≢ Greater) s.pending
 
+-- The pair of two places is pending.
+abbrev pub IsPending : Run → ℕ → ℕ → Type 0
+IsPending s i j = Contains s.pending (i, j) ⊎ Contains s.pending (j, i)
+
+-- The pair (i, j) is spared by the chain criterion: there is a place k other than i and j whose lead divides the least
+-- common multiple of the leads of i and j, and neither the pair of i and k nor the pair of j and k is pending.
+pub record IsSpared (key : List ℕ → List ℕ) (s : Run) (pair : ℕ × ℕ) : Type 0 where
+  pub place : ℕ
+  pub is_place : place < length s.members
+  pub not_first : place ≢ pair.0
+  pub not_second : place ≢ pair.1
+  pub lead_divides : IsTrue (divides (lead_of key s.members place) (pair_multiple key s.members pair))
+  pub first_done : IsPending s pair.0 place → ⊥
+  pub second_done : IsPending s pair.1 place → ⊥
+
 -- The leads of the pair have no variable in common.
 unfoldable pub has_coprime_leads : (List ℕ → List ℕ) → List Sugared → ℕ × ℕ → Bool
 has_coprime_leads key G pair = are_coprime (lead_of key G pair.0) (lead_of key G pair.1)
@@ -87,6 +103,19 @@ s_polynomial F key G pair =
 -- The pair is no longer pending.
 unfoldable pub drop_pair : Run → ℕ × ℕ → Run
 drop_pair s pair = record { members = s.members; pending = filter (λ other. not (other.0 == pair.0 && other.1 == pair.1)) s.pending }
+
+-- A removal: the next pair is spared, and is no longer pending.
+pub record IsRemoval (key : List ℕ → List ℕ) (s t : Run) : Type 0 where
+  pub pair : ℕ × ℕ
+  pub next : IsNext key s pair
+  pub spared : IsSpared key s pair
+  pub removed : t ≡ drop_pair s pair
+
+-- The next pair is removed as long as it is spared: removals lead from s to t, whose next pair is not spared.
+pub record AreRemovals (key : List ℕ → List ℕ) (s t : Run) : Type 0 where
+  pub states : List Run
+  pub steps : StepsTo (IsRemoval key) s states t
+  pub ended : (pair : ℕ × ℕ) → IsNext key t pair → IsSpared key t pair → ⊥
 
 -- A member is appended, and its pairs with all earlier members become pending.
 unfoldable pub append_member : Run → Sugared → Run
@@ -113,10 +142,18 @@ pub record IsHighTurn (F : Field) (key : List ℕ → List ℕ) (s : Run) : Type
   pub treated : has_coprime_leads key s.members pair ≡ false
   pub high : IsHighDivision F key s.members (s_polynomial F key s.members pair)
 
--- The run on L leads to the state `last` by this number of turns.
+-- A turn, and the removals after it, which are no turns.
+pub record IsRound (F : Field) (key : List ℕ → List ℕ) (s t : Run) : Type 0 where
+  pub turned : Run
+  pub turn : IsTurn F key s turned
+  pub removals : AreRemovals key turned t
+
+-- The run on L leads to the state `last` by this number of turns: there are removals at its start, and then after each turn.
 pub record IsRun (F : Field) (key : List ℕ → List ℕ) (L : List Polynomial) (turns : ℕ) (last : Run) : Type 0 where
+  pub first : Run
+  pub removals : AreRemovals key (run_start F key L) first
   pub states : List Run
-  pub steps : StepsTo (IsTurn F key) (run_start F key L) states last
+  pub steps : StepsTo (IsRound F key) first states last
   pub made : length states ≡ turns
 
 -- Finishing, the first act: a member is left out whose lead is divided by the lead of another; of members with equal leads

@@ -1,3 +1,4 @@
+//! Ideals by their reduced Grevlex bases, with cofactors both ways.
 ghost use Rattle.std.specs.Prelude.{◌≡◌, ◌<◌, ◌↔◌, [], All, IfOk, IsTrue, length};
 ghost use Rattle.std.specs.FinMap.{empty};
 ghost use Rattle.fj_theory.specs.Evaluation.{IsZeroOf, value};

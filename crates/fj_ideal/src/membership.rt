@@ -1,3 +1,4 @@
+//! Whether a polynomial or an ideal is in an ideal, with cofactors.
 ghost use Rattle.std.specs.Prelude.{◌↔◌, IfOk, IsTrue, MatchOption};
 ghost use Rattle.fj_theory.specs.Ideal.{Inside, Member};
 ghost use Rattle.fj_groebner.specs.Rows.{IsRow};

@@ -1,3 +1,4 @@
+//! Sums and products of ideals, and the polynomials of a product that is too high.
 ghost use Rattle.std.specs.Prelude.{◌≡◌, ◌++◌, ◌∷◌, [], IfOk};
 ghost use Rattle.fj_theory.specs.Ideal.{ArePolynomials, SameIdeal, products};
 ghost use Rattle.fj_theory.specs.Polynomial.{IsPolynomial, product};

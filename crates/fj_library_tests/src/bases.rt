@@ -113,10 +113,10 @@ fn orders(rt: HostRuntime) -> Result<(), Fail> {
     let alloc = rt.alloc();
     let given = &[FIRST, SECOND];
     let graded = &[THIRD, SECOND, FIRST];
-    answers::<Fp<2>, Grevlex, 3>(&rt, alloc, given, 3, graded)?;
-    answers::<Fp<2>, Grlex, 3>(&rt, alloc, given, 3, graded)?;
-    answers::<Fp<2>, Elim, 3>(&rt, alloc, given, 3, graded)?;
-    answers::<Fp<2>, Lex, 3>(&rt, alloc, given, 6, &[CUBE, THIRD])
+    answers::<Fp<2>, Grevlex, 3>(&rt, alloc, given, 2, graded)?;
+    answers::<Fp<2>, Grlex, 3>(&rt, alloc, given, 2, graded)?;
+    answers::<Fp<2>, Elim, 3>(&rt, alloc, given, 2, graded)?;
+    answers::<Fp<2>, Lex, 3>(&rt, alloc, given, 4, &[CUBE, THIRD])
 }
 
 // Over GF(2) of t*x and (1 - t)*y, with t the eighth variable: the member without t generates the meet of (x) and (y).
@@ -128,7 +128,7 @@ fn elimination(rt: HostRuntime) -> Result<(), Fail> {
     let xy = ([1, 1, 0, 0, 0, 0, 0, 0], 1);
     let given: &[&[([u64; 8], u64)]] = &[&[tx], &[y, ty]];
     let members: &[&[([u64; 8], u64)]] = &[&[xy], &[ty, y], &[tx]];
-    answers::<Fp<2>, Elim, 8>(&rt, rt.alloc(), given, 3, members)
+    answers::<Fp<2>, Elim, 8>(&rt, rt.alloc(), given, 2, members)
 }
 
 // Lists of one member and of none, with zeros, repeated members, equal leads and a constant.
@@ -145,7 +145,7 @@ fn small_lists(rt: HostRuntime) -> Result<(), Fail> {
         (&[twice], 0, &[X]),
         (&[zero, X, zero], 0, &[X]),
         (&[X, X], 1, &[X]),
-        (&[line, X], 3, &[Y, X]),
+        (&[line, X], 2, &[Y, X]),
         (&[X, ONE], 1, &[ONE]),
         (&[X, Y, Z], 3, &[Z, Y, X]),
         (&[line, next], 1, &[next, across]),
@@ -164,7 +164,7 @@ fn textbook(rt: HostRuntime) -> Result<(), Fail> {
     let second: Terms = &[([2, 1, 0], 1), ([0, 2, 0], 5), ([1, 0, 0], 1)];
     let square: Terms = &[([0, 2, 0], 1), ([1, 0, 0], 3)];
     let members = &[square, &[([1, 1, 0], 1)], &[([2, 0, 0], 1)]];
-    answers::<Fp<7>, Grlex, 3>(&rt, rt.alloc(), &[first, second], 10, members)
+    answers::<Fp<7>, Grlex, 3>(&rt, rt.alloc(), &[first, second], 5, members)
 }
 
 // Over GF(3) an ideal whose remainder is not monic.
@@ -175,7 +175,7 @@ fn monic_members(rt: HostRuntime) -> Result<(), Fail> {
     let third: Terms = &[([0, 2, 0], 1), ([1, 0, 0], 2)];
     let last: Terms = &[([2, 0, 0], 1), ([0, 1, 0], 2)];
     let members = &[third, second, last];
-    answers::<Fp<3>, Grevlex, 3>(&rt, rt.alloc(), &[first, second], 3, members)
+    answers::<Fp<3>, Grevlex, 3>(&rt, rt.alloc(), &[first, second], 2, members)
 }
 
 // Powers whose least common multiples are above the limit, so that each pair is dropped.
@@ -185,6 +185,15 @@ fn high_pairs(rt: HostRuntime) -> Result<(), Fail> {
     let y: Terms = &[([0, 815730721000, 0], 1)];
     let z: Terms = &[([0, 0, 815730721000], 1)];
     answers::<Fp<13>, Grevlex, 3>(&rt, rt.alloc(), &[x, y, z], 3, &[z, y, x])
+}
+
+// The least common multiple of the two powers is above the limit, and xy spares their pair.
+#[test]
+fn spared_high_pair(rt: HostRuntime) -> Result<(), Fail> {
+    let x: Terms = &[([815730721000, 0, 0], 1)];
+    let y: Terms = &[([0, 815730721000, 0], 1)];
+    let xy: Terms = &[([1, 1, 0], 1)];
+    answers::<Fp<13>, Grevlex, 3>(&rt, rt.alloc(), &[x, y, xy], 2, &[xy, y, x])
 }
 
 // Over GF(2) in Lex, g = x + y^(2^40): x is 1*g + y^(2^40), the division of x^2 passes the limit, and so does the run

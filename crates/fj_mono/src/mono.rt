@@ -1,3 +1,4 @@
+//! Monomials in eight variables, of total degree at most 2^40.
 ghost use Rattle.std.specs.Prelude.{◌≡◌, ◌+◌, ◌<◌, ◌≤◌, ◌^◌, ◌↔◌, ℕ, List, length, take, sum, slice_index, All, IfOk, IsErr, IsTrue};
 ghost use Rattle.fj_theory.specs.Exponents.{divides, least_common_multiple, minus, origin, plus, times, total};
 

@@ -1,3 +1,4 @@
+//! Monomial orders by keys: Lex, Grlex, Grevlex and Elim.
 ghost use Rattle.std.specs.Prelude.{◌≡◌, ◌<◌, ◌≤◌, ℕ, List};
 ghost use Rattle.fj_theory.specs.MonomialOrder.{IsMonomialOrder, compare_by, elim_key, front_sums, grevlex_key, grlex_key, lex_key};
 

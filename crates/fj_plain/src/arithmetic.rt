@@ -1,3 +1,4 @@
+//! Sums and products of plain polynomials.
 ghost use Rattle.std.specs.Prelude.{◌≡◌, Contains, IfOk};
 ghost use Rattle.fj_coeff.specs.Field.{primes};
 ghost use Rattle.fj_theory.specs.Plain.{HasRanksBelow, plain_sum as sum_terms, plain_product as product_terms};

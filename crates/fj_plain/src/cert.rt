@@ -1,3 +1,4 @@
+//! Certificates of answers, and whether one holds.
 ghost use Rattle.std.specs.Prelude.{◌↔◌, IfOk, IsTrue};
 ghost use Rattle.fj_plain.specs.Holds.{Holds};
 

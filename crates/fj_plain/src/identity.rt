@@ -1,3 +1,4 @@
+//! The identities of certificates: combinations of lists, and polynomials by their parts.
 ghost use Rattle.std.specs.Prelude.{◌≡◌, ◌<◌, ◌↔◌, ◌^◌, Contains, IfOk, IsTrue, length};
 ghost use Rattle.fj_coeff.specs.Field.{primes};
 ghost use Rattle.fj_theory.specs.Plain.{HasRanksBelow};

@@ -1,3 +1,4 @@
+//! Lists and tables of plain polynomials, points, and the lists that a stop keeps.
 ghost use Rattle.std.specs.Prelude.{◌≡◌, ◌<◌, ◌↔◌, length, slice_get, IsTrue, Some};
 ghost use Rattle.fj_theory.specs.Certificate.{AllRanksBelow, AllRowsBelow};
 

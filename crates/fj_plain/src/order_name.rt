@@ -1,3 +1,4 @@
+//! Names of monomial orders.
 ghost use Rattle.std.specs.Prelude.{◌≡◌, ◌<◌};
 ghost use Rattle.fj_plain.specs.OrderRow.{order_in_row};
 

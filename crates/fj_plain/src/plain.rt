@@ -1,3 +1,4 @@
+//! Polynomials that anyone may make: terms with ranks, in any order.
 ghost use Rattle.std.specs.Prelude.{◌≡◌, ◌≢◌, ◌<◌, ◌≤◌, ◌^◌, ◌↔◌, length, sum, slice_get, All, AllPairs, IfSome, IsSome, IsTrue, Some};
 ghost use Rattle.fj_theory.specs.Plain.{IsPlain, HasRanksBelow};
 ghost use Rattle.fj_theory.specs.Certificate.{IsResidue};

@@ -1,3 +1,4 @@
+//! Sums over GF(p) to which terms are added one by one.
 ghost use Rattle.std.specs.Prelude.{◌≡◌, ◌<◌, ◌↔◌, ◌+◌, ◌%◌, ◌^◌, ℕ, List, All, Contains, IfOk, IsTrue, OnOk, if◌then◌else◌};
 ghost use Rattle.std.specs.Ordering.{nat_cmp, eq_by_cmp};
 ghost use Rattle.std.specs.BTreeMap.{IsOrdered, values};

@@ -1,3 +1,4 @@
+//! Terms of plain polynomials.
 ghost use Rattle.std.specs.Prelude.{◌≡◌, length};
 
 /// The greatest total of the exponents of a plain term, 2^41: twice the greatest degree of a monomial, so that a product

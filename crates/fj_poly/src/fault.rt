@@ -1,3 +1,4 @@
+//! Why a product is refused.
 ghost use Rattle.std.specs.Prelude.{◌≡◌};
 ghost use Rattle.fj_poly.specs.declared.fault.PolyFault.TheVariants.{Memory};
 

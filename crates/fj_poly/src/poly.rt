@@ -1,3 +1,4 @@
+//! Polynomials as lists of terms that fall in an order.
 ghost use Rattle.std.specs.Prelude.{◌≡◌, ◌≢◌, ◌<◌, ◌↔◌, ◌++◌, ◌∷◌, [], All, IfOk, IfErr, IsTrue, length, slice_get};
 ghost use Rattle.std.specs.Option.{option_map};
 ghost use Rattle.std.specs.declared.cmp.Ordering.TheVariants.{Greater};
@@ -8,11 +9,12 @@ ghost use Rattle.fj_poly.specs.Limit.{IsHigh};
 ghost use Rattle.fj_poly.specs.Slots.{without_lead};
 ghost use Rattle.fj_poly.specs.Terms.{AreTerms, entries};
 
+mod difference;
 pub(crate) mod merge;
-mod order;
 mod plain;
 pub(crate) mod point;
 pub(crate) mod product;
+mod reordering;
 
 use self::merge::merge_terms;
 use fj_coeff::Coeff;

@@ -1,3 +1,4 @@
+//! The candidates for jumping numbers: the fractions of (0, 1] with few digits in base p.
 ghost use Rattle.std.specs.Prelude.{◌≡◌, ◌+◌, ◌<◌, ◌≤◌, ◌^◌, Contains, IfOk, OnOk};
 ghost use Rattle.fj_coeff.specs.Field.{primes};
 ghost use Rattle.fj_theory.specs.Candidates.{AreCandidates};

@@ -1,3 +1,4 @@
+//! The digits of a fraction in base p: those before the period, and the period.
 ghost use Rattle.std.specs.Prelude.{◌≡◌, ◌+◌, ◌*◌, ◌<◌, ◌≤◌, ◌^◌, length, All, Any, Contains, IfOk};
 ghost use Rattle.std.specs.Int.{IsGcd};
 ghost use Rattle.fj_coeff.specs.Field.{primes};

@@ -1,3 +1,4 @@
+//! Fractions in lowest terms.
 ghost use Rattle.std.specs.Prelude.{◌≡◌, ◌+◌, ◌*◌, ◌<◌, ◌≤◌, ◌^◌, ◌↔◌, ℕ, IfOk, IsErrOf};
 ghost use Rattle.std.specs.Int.{IsGcd};
 ghost use Rattle.fj_theory.specs.Fraction.{IsInUnitInterval, IsLowest, ceil_times, compare, plus_whole};

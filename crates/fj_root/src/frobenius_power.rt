@@ -1,3 +1,4 @@
+//! Frobenius powers of lists.
 ghost use Rattle.std.specs.Prelude.{◌≡◌, ◌≤◌, ◌^◌, IfOk};
 ghost use Rattle.std.specs.List.{Any};
 ghost use Rattle.fj_theory.specs.FrobeniusPower.{frobenius_power};

@@ -1,3 +1,4 @@
+//! The parts of a polynomial over q-th powers.
 ghost use Rattle.std.specs.Prelude.{◌≡◌, ◌≢◌, ◌≤◌, ◌^◌, ◌++◌, ◌∷◌, [], IfOk, OnOk, All, sum};
 ghost use Rattle.std.specs.BTreeMap.{IsOrdered, get};
 ghost use Rattle.std.specs.declared.cmp.Ordering.TheVariants.{Greater};

@@ -1,3 +1,4 @@
+//! Lists that generate Frobenius roots: the parts of polynomials and of multiples.
 ghost use Rattle.std.specs.Prelude.{◌≡◌, ◌≢◌, ◌≤◌, ◌^◌, ◌++◌, List, map, All, IfOk, OnOk, MatchBool};
 ghost use Rattle.std.specs.List.{Any};
 ghost use Rattle.std.specs.FinMap.{empty};

@@ -1,3 +1,4 @@
+pub mod Declared
 pub mod Residues
 pub mod OwnStops
 pub mod Made
@@ -8,3 +9,4 @@ pub mod AnswerVariables
 pub mod Places
 pub mod Pieces
 pub mod Variables
+pub mod Verdicts

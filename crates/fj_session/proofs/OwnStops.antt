@@ -1,8 +1,9 @@
 -- Stops of the runs that a question needs before its answer is printed.
-use Rattle.std.proofs.Common.{◌≡◌, ℕ, List, Result, sym, subst}
+use Rattle.std.proofs.Common.{◌≡◌, ℕ, List, Result, sym, subst, refl}
 use Rattle.std.specs.Result.{IsErrAnd}
 use Rattle.fj_coeff.specs.Field.{Field}
 use Rattle.fj_theory.specs.Polynomial.{Polynomial}
+use Rattle.fj_plain.specs.declared.order_name.OrderName.{OrderName}
 use Rattle.fj_plain.specs.declared.order_name.OrderName.TheVariants.{Grevlex}
 use Rattle.fj_basis.specs.declared.stop.Stop.{Stop}
 use Rattle.fj_ideal.specs.Lists.{NoProduct, RunFor}
@@ -10,12 +11,16 @@ use Rattle.fj_ideal.specs.Stop.{IsCauseOf, IsWritten, StopsExactlyWith, StopsOnl
 use Rattle.fj_ideal.proofs.Stops.{only_from_exactly, only_handed_on, only_of_more}
 use Rattle.fj_session.specs.Outcome.{OwnStops}
 
+-- A stop of the run on a declared list, handed on.
+pub declared_handed_on : {T : Type 0} (F : Field) (budget : ℕ) (IsList : OrderName → List Polynomial → Type 0) (IsProduct : List Polynomial → Type 0) (L : List Polynomial) → IsList Grevlex L → (s : Stop) (r : Result T Stop)
+    → IsErrAnd r (λ y. y ≡ s) → IsCauseOf F (RunFor Grevlex (λ M. M ≡ L)) NoProduct budget s × IsWritten F s → StopsOnlyWith F IsList IsProduct budget r
+declared_handed_on F budget IsList IsProduct L list s r is h =
+    only_handed_on F budget (RunFor Grevlex (λ M. M ≡ L)) IsList NoProduct IsProduct (λ o M e. subst (λ n. IsList n M) (sym e.0) (subst (IsList Grevlex) (sym e.1) list)) (λ M none. absurd none) s r is h
+
 module _ (F : Field) (budget : ℕ) (IsList IsProduct : List Polynomial → Type 0) where
-  -- A stop of the run on a declared list, handed on.
   pub own_handed_on : {T : Type 0} (L : List Polynomial) → IsList L → (s : Stop) (r : Result T Stop) → IsErrAnd r (λ y. y ≡ s) → IsCauseOf F (RunFor Grevlex (λ M. M ≡ L)) NoProduct budget s × IsWritten F s
       → OwnStops F IsList IsProduct budget r
-  own_handed_on L list s r is h =
-      only_handed_on F budget (RunFor Grevlex (λ M. M ≡ L)) (RunFor Grevlex IsList) NoProduct IsProduct (λ o M e. (e.0, subst IsList (sym e.1) list)) (λ M none. absurd none) s r is h
+  own_handed_on L list s r is h = declared_handed_on F budget (RunFor Grevlex IsList) IsProduct L (refl, list) s r is h
 
   module _ (P R : List Polynomial → Type 0) (f : (M : List Polynomial) → P M → IsList M) (g : (M : List Polynomial) → R M → IsProduct M) where
     -- The stops of an operation on ideals.

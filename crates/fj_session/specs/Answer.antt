@@ -12,7 +12,7 @@ use Rattle.fj_script.specs.declared.script.Env.{Env}
 use Rattle.fj_session.specs.Meaning.{Meaning}
 use Rattle.fj_session.specs.Statement.{meaning_of}
 use Rattle.fj_session.specs.declared.types.Answer.{Answer}
-use Rattle.fj_session.specs.declared.types.Answer.TheVariants.{Parts, Ideal, Yes, No, StoppedPairs, StoppedHigh, Later}
+use Rattle.fj_session.specs.declared.types.Answer.TheVariants.{Parts, Ideal, Yes, No, Off, StoppedPairs, StoppedHigh, Later}
 use Rattle.fj_session.specs.declared.types.PartRow.{PartRow}
 
 -- What the answer to a question is. A question stops only where the run on one of its lists, which is kept, makes all turns
@@ -37,6 +37,7 @@ is_left (Parts rows) = false
 is_left (Ideal list) = false
 is_left Yes = false
 is_left No = false
+is_left Off = false
 is_left (StoppedPairs k) = true
 is_left (StoppedHigh k) = true
 is_left Later = true
@@ -52,6 +53,7 @@ AnswerUsesFirst n (Parts rows) = All (RowUsesFirst n) rows
 AnswerUsesFirst n (Ideal list) = All (λ h. UsesFirst n (polynomial h)) list
 AnswerUsesFirst n Yes = Unit {0}
 AnswerUsesFirst n No = Unit {0}
+AnswerUsesFirst n Off = Unit {0}
 AnswerUsesFirst n (StoppedPairs k) = Unit {0}
 AnswerUsesFirst n (StoppedHigh k) = Unit {0}
 AnswerUsesFirst n Later = Unit {0}

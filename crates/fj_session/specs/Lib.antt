@@ -1,5 +1,7 @@
 pub mod Meaning
 pub mod Ideals
+pub mod Limits
+pub mod Splittings
 pub mod Statement
 pub mod Answer
 pub mod AnswerLaws

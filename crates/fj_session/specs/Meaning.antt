@@ -62,12 +62,12 @@ pub record IsPrintedList (F : Field) (printing : OrderName) (IsAsked : List Poly
   pub asked : IsAsked ideal
   pub basis : IsReducedBasis F grevlex_key ideal L
 
--- A question that asks for an ideal, and for that needs Grevlex bases of these lists, and of the printed list for the
--- printing order.
-abbrev pub meaning_of_ideal : Field → OrderName → (List Polynomial → Type 0) → (List Polynomial → Type 0) → (List Polynomial → Type 0) → Meaning
+-- A question that asks for an ideal, and for that needs bases of these lists, each for its order, and of the printed list
+-- for the printing order.
+abbrev pub meaning_of_ideal : Field → OrderName → (List Polynomial → Type 0) → (OrderName → List Polynomial → Type 0) → (List Polynomial → Type 0) → Meaning
 meaning_of_ideal F printing IsAsked IsList IsProduct = record {
   answer = IsShownIdeal F printing IsAsked;
-  lists = λ order L. RunFor Grevlex IsList order L ⊎ RunFor printing (IsPrintedList F printing IsAsked) order L;
+  lists = λ order L. IsList order L ⊎ RunFor printing (IsPrintedList F printing IsAsked) order L;
   products = IsProduct;
 }
 
@@ -76,9 +76,9 @@ IsVerdict P Yes = P
 IsVerdict P No = P → ⊥
 IsVerdict P _ = ⊥
 
--- A question whether P holds, which needs Grevlex bases of these lists.
-abbrev pub meaning_of_verdict : Type 0 → (List Polynomial → Type 0) → Meaning
-meaning_of_verdict P IsList = record { answer = IsVerdict P; lists = RunFor Grevlex IsList; products = NoProduct }
+-- A question whether P holds, which needs bases of these lists, each for its order.
+abbrev pub meaning_of_verdict : Type 0 → (OrderName → List Polynomial → Type 0) → (List Polynomial → Type 0) → Meaning
+meaning_of_verdict P IsList IsProduct = record { answer = IsVerdict P; lists = IsList; products = IsProduct }
 
 abbrev pub IsLater : Answer → Type 0
 IsLater Later = Unit {0}

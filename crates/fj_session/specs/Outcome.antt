@@ -1,5 +1,6 @@
 -- What the calculation of the ideals of a question gives, and why it stops.
-use Rattle.std.specs.Prelude.{◌≡◌, ◌≢◌, ℕ, List, Result}
+use Rattle.std.specs.Prelude.{◌≡◌, ◌≢◌, ℕ, Bool, cond, List, Result, Ok, Err, IfOk}
+use Rattle.std.specs.Result.{IsErrAnd}
 use Rattle.fj_coeff.specs.Field.{Field}
 use Rattle.fj_theory.specs.Ideal.{SameIdeal}
 use Rattle.fj_theory.specs.Plain.{PlainPolynomial}
@@ -12,6 +13,7 @@ use Rattle.fj_basis.specs.declared.stop.Stop.{Stop}
 use Rattle.fj_ideal.specs.Ideal.{IsIdeal, WithBasis}
 use Rattle.fj_ideal.specs.Lists.{NoProduct, RunFor}
 use Rattle.fj_ideal.specs.Stop.{StopsOnlyWith, kept_list, key_of}
+use Rattle.fj_session.specs.Answer.{IsAnswerTo}
 use Rattle.fj_session.specs.Meaning.{IsShownBasis, Meaning}
 use Rattle.fj_session.specs.declared.types.Answer.{Answer}
 use Rattle.fj_session.specs.declared.types.Answer.TheVariants as answers
@@ -38,6 +40,20 @@ PrintStops F printing L budget r = StopsOnlyWith F (RunFor printing (λ M. (prin
 -- It stops only with a cause that this meaning gives.
 abbrev pub StopsFor : {T : Type 0} → Field → Meaning → ℕ → Result T Stop → Type 0
 StopsFor F meaning budget r = StopsOnlyWith F meaning.lists meaning.products budget r
+
+-- The result is an answer that this meaning gives, or a stop with a cause that it gives.
+abbrev pub IsFound : Field → Meaning → OrderName → ℕ → Result Answer Stop → Type 0
+IsFound F meaning printing budget r = IfOk r (IsAnswerTo F meaning printing budget) × StopsFor F meaning budget r
+
+-- An ideal is answered by its basis for the printing order; a stop of its calculation is handed on.
+abbrev pub IsPrinted : Field → OrderName → ℕ → Result WithBasis Stop → Result Answer Stop → Type 0
+IsPrinted F printing budget (Ok J) r = IfOk r (IsShown F printing J.given) × PrintStops F printing J.members budget r
+IsPrinted F printing budget (Err stop) r = IsErrAnd r (λ s. s ≡ stop)
+
+-- A verdict is answered by yes or no; a stop of its calculation is handed on.
+abbrev pub IsJudged : Result Bool Stop → Result Answer Stop → Type 0
+IsJudged (Ok b) r = r ≡ Ok (cond b answers.Yes answers.No)
+IsJudged (Err stop) r = IsErrAnd r (λ s. s ≡ stop)
 
 -- The same is kept, its terms falling in the order of the key.
 pub record IsKeptAgain (key : List ℕ → List ℕ) (old new : Kept) : Type 0 where

@@ -3,7 +3,7 @@ use Rattle.std.specs.Prelude.{ℕ, List, [], ◌∷◌, ◌++◌, length, map, t
 use Rattle.std.specs.List.{flat_map}
 use Rattle.fj_text.specs.Printed.{joined, list_bytes, polynomial_bytes}
 use Rattle.fj_session.specs.declared.types.Answer.{Answer}
-use Rattle.fj_session.specs.declared.types.Answer.TheVariants.{Parts, Ideal, Yes, No, StoppedPairs, StoppedHigh, Later}
+use Rattle.fj_session.specs.declared.types.Answer.TheVariants.{Parts, Ideal, Yes, No, Off, StoppedPairs, StoppedHigh, Later}
 use Rattle.fj_session.specs.declared.types.PartRow.{PartRow}
 
 -- A residue: a number for each variable.
@@ -25,6 +25,7 @@ answer_bytes names number (Parts rows) = rows_bytes names number rows
 answer_bytes names number (Ideal list) = decimal number ++ codes ": " ++ list_bytes names list ++ codes "\n"
 answer_bytes names number Yes = decimal number ++ codes ": yes\n"
 answer_bytes names number No = decimal number ++ codes ": no\n"
+answer_bytes names number Off = decimal number ++ codes ": off\n"
 answer_bytes names number (StoppedPairs k) = decimal number ++ codes ": stopped pairs\n"
 answer_bytes names number (StoppedHigh k) = decimal number ++ codes ": stopped high\n"
 answer_bytes names number Later = decimal number ++ codes ": later\n"

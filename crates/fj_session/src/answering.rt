@@ -1,15 +1,16 @@
 //! The answers to the questions of a session.
-ghost use Rattle.std.specs.Prelude.{◌≡◌, IfOk, length, if◌then◌else◌};
+ghost use Rattle.std.specs.Prelude.{◌≡◌, IfOk, length};
 ghost use Rattle.fj_coeff.specs.PrimeField.{prime_field};
-ghost use Rattle.fj_session.specs.declared.types.Answer.TheVariants as answers;
 ghost use Rattle.fj_session.specs.Answer.{AnswerUsesFirst, IsAnswer, IsAnswerOver};
 ghost use Rattle.fj_shell.specs.Asked.{AreOfOneSession};
-ghost use Rattle.fj_session.specs.Outcome.{IsShown, PrintStops, StopsFor};
+ghost use Rattle.fj_session.specs.Outcome.{IsFound, IsJudged, IsPrinted};
 ghost use Rattle.fj_session.specs.Statement.{meaning_of};
 
-use super::ideals::{are_same, declared, is_member, power, product, root, sum};
+use super::ideals::{are_same, colon, declared, is_member, meet, power, product, root, sum};
+use super::limits::{is_jump, is_regular, left, test};
 use super::part_rows::part_rows;
 use super::shown::{shown_basis, shown_kept};
+use super::splittings::{is_compatible, is_pure, is_pure_at, split};
 use super::types::Answer;
 use fj_basis::Stop;
 use fj_coeff::{Coeff, OverField, over_prime_field};
@@ -25,7 +26,14 @@ use std::alloc::{AllocError, Global};
 ///   terms falling in the printing order of the question.
 /// - `basis J`, `sum J K`, `product J K`, `power e J`, `root e J`: J, the sum, the product, the Frobenius power and the
 ///   Frobenius root, by their reduced bases for the printing order, the terms of each member falling in it.
+/// - `meet J K`, `colon J K`: the meet and the quotient J : K, the same way (Cox, Little and O'Shea 2015, chapter 4).
+/// - `test F t`, `left F t`: the test ideal of F^t, and the limit from the left of the test ideals of F at t, the same way.
 /// - `member F J`, `same J K`: whether F is in J, whether J and K are one ideal.
+/// - `isjump F t`, `regular F t`: whether t is an F-jumping number of F, whether 1 is in the test ideal of F^t.
+/// - `fpure J`: whether the ring of polynomials modulo J is F-pure (Hochster and Roberts 1976, Fedder 1983). `fpure J P`:
+///   whether it is so at the point P, and `Off` where P isn't a zero of J. `split J`: the root at 1 of J^[p] : J, by its
+///   reduced basis for the printing order.
+/// - `compatible e U J`: whether J is compatible with U at e (Schwede 2009).
 /// - Other questions are left for later.
 ///
 /// The question stops only where a run on one of its lists, which is kept with its order, makes all turns of the question's
@@ -97,8 +105,7 @@ fn field_answer<K: Coeff>(alloc: Global, env: &Env, asked: &Asked) -> Result<Ans
 fn found<K: Coeff>(alloc: Global, env: &Env, asked: &Asked) -> Result<Answer, Stop>
     requires session { AreOfOneSession env.now asked.now }
     requires field { K.field ≡ prime_field env.now.p }
-    ensures answer { IfOk result (IsAnswerOver K.field env.now asked.now) }
-    ensures stop { StopsFor K.field (meaning_of K.field env.now asked.now.order asked.now.question) asked.now.budget result }
+    ensures { IsFound K.field (meaning_of K.field env.now asked.now.order asked.now.question) asked.now.order asked.now.budget result }
 {
     let budget = asked.budget;
     match asked.question {
@@ -106,34 +113,48 @@ fn found<K: Coeff>(alloc: Global, env: &Env, asked: &Asked) -> Result<Answer, St
             let f = polynomial_at(env, f);
             Ok(Answer::Parts(part_rows::<K>(alloc, asked.order, e, f)?))
         }
-        Question::Basis { j } => {
-            let ideal = declared::<K>(alloc, env, budget, j)?;
-            shown(alloc, asked, &ideal)
-        }
-        Question::Member { f, j } => Ok(verdict(is_member::<K>(alloc, env, budget, f, j)?)),
-        Question::Same { j, k } => Ok(verdict(are_same::<K>(alloc, env, budget, j, k)?)),
-        Question::Sum { j, k } => shown(alloc, asked, &sum::<K>(alloc, env, budget, j, k)?),
+        Question::Basis { j } => printed(alloc, asked, declared::<K>(alloc, env, budget, j)),
+        Question::Member { f, j } => judged(is_member::<K>(alloc, env, budget, f, j)),
+        Question::Same { j, k } => judged(are_same::<K>(alloc, env, budget, j, k)),
+        Question::Sum { j, k } => printed(alloc, asked, sum::<K>(alloc, env, budget, j, k)),
         Question::Product { j, k } => {
-            shown(alloc, asked, &product::<K>(alloc, env, budget, j, k)?)
+            printed(alloc, asked, product::<K>(alloc, env, budget, j, k))
         }
-        Question::Power { e, j } => { shown(alloc, asked, &power::<K>(alloc, env, budget, e, j)?) }
-        Question::Root { e, j } => shown(alloc, asked, &root::<K>(alloc, env, budget, e, j)?),
+        Question::Meet { j, k } => printed(alloc, asked, meet::<K>(alloc, env, budget, j, k)),
+        Question::Colon { j, k } => printed(alloc, asked, colon::<K>(alloc, env, budget, j, k)),
+        Question::Power { e, j } => printed(alloc, asked, power::<K>(alloc, env, budget, e, j)),
+        Question::Root { e, j } => printed(alloc, asked, root::<K>(alloc, env, budget, e, j)),
+        Question::Test { f, t } => printed(alloc, asked, test::<K>(alloc, env, budget, f, &t)),
+        Question::Left { f, t } => printed(alloc, asked, left::<K>(alloc, env, budget, f, &t)),
+        Question::IsJump { f, t } => judged(is_jump::<K>(alloc, env, budget, f, &t)),
+        Question::Regular { f, t } => judged(is_regular::<K>(alloc, env, budget, f, &t)),
+        Question::Pure { j } => judged(is_pure::<K>(alloc, env, budget, j)),
+        Question::PureAt { j, at } => is_pure_at::<K>(alloc, env, budget, j, at),
+        Question::Split { j } => printed(alloc, asked, split::<K>(alloc, env, budget, j)),
+        Question::Compatible { e, u, j } => {
+            judged(is_compatible::<K>(alloc, env, budget, e, u, j))
+        }
         _ => Ok(Answer::Later),
     }
 }
 
 /// The answer that an ideal is, for the printing order of the question.
-fn shown<K: Coeff>(alloc: Global, asked: &Asked, ideal: &Ideal<K>) -> Result<Answer, Stop>
-    ensures answer { IfOk result (IsShown K.field asked.now.order ideal.now.given) }
-    ensures stop { PrintStops K.field asked.now.order ideal.now.members asked.now.budget result }
+fn printed<K: Coeff>(
+    alloc: Global,
+    asked: &Asked,
+    ideal: Result<Ideal<K>, Stop>,
+) -> Result<Answer, Stop>
+    ensures { IsPrinted K.field asked.now.order asked.now.budget ideal result }
 {
-    let list = shown_basis(alloc, ideal, asked.order, asked.budget)?;
+    let ideal = ideal?;
+    let list = shown_basis(alloc, &ideal, asked.order, asked.budget)?;
     Ok(Answer::Ideal(list))
 }
 
 /// The answer yes, or no.
-fn verdict(holds: bool) -> Answer
-    ensures { result ≡ (if holds then answers.Yes else answers.No) }
+fn judged(verdict: Result<bool, Stop>) -> Result<Answer, Stop>
+    ensures { IsJudged verdict result }
 {
-    if holds { Answer::Yes } else { Answer::No }
+    let holds = verdict?;
+    Ok(if holds { Answer::Yes } else { Answer::No })
 }

@@ -4,14 +4,16 @@
 //! first list that stops.
 ghost use Rattle.std.specs.Prelude.{◌≡◌, ◌++◌, ◌⊎◌, ◌≤◌, ◌^◌, IfOk, MatchBool, MatchOption};
 ghost use Rattle.fj_coeff.specs.PrimeField.{prime_field};
+ghost use Rattle.fj_theory.specs.Colon.{IsColon, IsMeet};
 ghost use Rattle.fj_theory.specs.FrobeniusPower as theory;
 ghost use Rattle.fj_theory.specs.Ideal.{Member, SameIdeal, products};
 ghost use Rattle.fj_theory.specs.Root.{IsRoot};
 ghost use Rattle.fj_ideal.specs.Ideal.{IsIdealOf};
 ghost use Rattle.fj_ideal.specs.Lists.{NoProduct};
+ghost use Rattle.fj_ideal.specs.Stop.{StopsOnlyWith};
 ghost use Rattle.fj_shell.specs.Asked.{IsIdealAt, IsPolyAt};
 ghost use Rattle.fj_shell.specs.Named.{ideal_at, polynomial_at};
-ghost use Rattle.fj_session.specs.Ideals.{IsHighOfPower, IsHighOfProduct, IsListOfPower, IsListOfProduct, IsListOfRoot, IsListOfSum};
+ghost use Rattle.fj_session.specs.Ideals.{IsHighOfColon, IsHighOfMeet, IsHighOfPower, IsHighOfProduct, IsListOfColon, IsListOfMeet, IsListOfPower, IsListOfProduct, IsListOfRoot, IsListOfSum};
 ghost use Rattle.fj_session.specs.Outcome.{IsIdealFor, OwnStops};
 
 use super::shown::from_plain;
@@ -97,6 +99,52 @@ pub(crate) fn product<K: Coeff>(
     match other(alloc, env, budget, j, k)? {
         Some(second) => first.product(alloc, &second, budget),
         None => first.product(alloc, &first, budget),
+    }
+}
+
+/// The meet of two ideals.
+pub(crate) fn meet<K: Coeff>(
+    alloc: Global,
+    env: &Env,
+    budget: u64,
+    j: u32,
+    k: u32,
+) -> Result<Ideal<K>, Stop>
+    requires field { K.field ≡ prime_field env.now.p }
+    requires first { IsIdealAt env.now j }
+    requires second { IsIdealAt env.now k }
+    ensures ideal { IfOk result (IsIdealFor K.field (IsMeet K.field (ideal_at env.now j) (ideal_at env.now k))) }
+    ensures stop { StopsOnlyWith K.field (IsListOfMeet K.field (ideal_at env.now j) (ideal_at env.now k)) (IsHighOfMeet K.field (ideal_at env.now j) (ideal_at env.now k)) budget result }
+{
+    // The ring has at most seven variables.
+    let _ = env.vars.len();
+    let first = declared(alloc, env, budget, j)?;
+    match other(alloc, env, budget, j, k)? {
+        Some(second) => fj_elim::meet(alloc, &first, &second, budget),
+        None => fj_elim::meet(alloc, &first, &first, budget),
+    }
+}
+
+/// The quotient of two ideals.
+pub(crate) fn colon<K: Coeff>(
+    alloc: Global,
+    env: &Env,
+    budget: u64,
+    j: u32,
+    k: u32,
+) -> Result<Ideal<K>, Stop>
+    requires field { K.field ≡ prime_field env.now.p }
+    requires first { IsIdealAt env.now j }
+    requires second { IsIdealAt env.now k }
+    ensures ideal { IfOk result (IsIdealFor K.field (IsColon K.field (ideal_at env.now j) (ideal_at env.now k))) }
+    ensures stop { StopsOnlyWith K.field (IsListOfColon K.field (ideal_at env.now j) (ideal_at env.now k)) (IsHighOfColon K.field (ideal_at env.now j) (ideal_at env.now k)) budget result }
+{
+    // The ring has at most seven variables.
+    let _ = env.vars.len();
+    let first = declared(alloc, env, budget, j)?;
+    match other(alloc, env, budget, j, k)? {
+        Some(second) => fj_elim::colon(alloc, &first, &second, budget),
+        None => fj_elim::colon(alloc, &first, &first, budget),
     }
 }
 

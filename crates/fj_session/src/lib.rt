@@ -4,10 +4,13 @@
 mod answering;
 mod ideals;
 pub mod laws;
+mod limits;
 mod part_rows;
+mod points;
 mod printing;
 mod program;
 mod shown;
+mod splittings;
 pub mod types;
 
 pub use answering::answer;

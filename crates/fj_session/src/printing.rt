@@ -17,7 +17,7 @@ use std::alloc::{AllocError, Global};
 ///
 /// Each part has a line `k: part (a1,..,an) = h`, with the n exponents of its residue; where there is none, the line is
 /// `k: none`. An ideal has the line `k: (g1, g2, ..)`, or `k: (0)` where its basis is empty. The others have the lines
-/// `k: yes`, `k: no`, `k: stopped pairs`, `k: stopped high` and `k: later`.
+/// `k: yes`, `k: no`, `k: off`, `k: stopped pairs`, `k: stopped high` and `k: later`.
 ///
 /// Condition: nothing past the names occurs.
 pub fn print_answer(
@@ -35,6 +35,7 @@ pub fn print_answer(
         Answer::Ideal(list) => push_ideal(alloc, &mut out, vars, number, list)?,
         Answer::Yes => push_word(&mut out, number, b": yes\n")?,
         Answer::No => push_word(&mut out, number, b": no\n")?,
+        Answer::Off => push_word(&mut out, number, b": off\n")?,
         Answer::StoppedPairs(_) => push_word(&mut out, number, b": stopped pairs\n")?,
         Answer::StoppedHigh(_) => push_word(&mut out, number, b": stopped high\n")?,
         Answer::Later => push_word(&mut out, number, b": later\n")?,

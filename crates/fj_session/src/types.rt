@@ -61,6 +61,8 @@ pub enum Answer {
     Ideal(PlainList),
     Yes,
     No,
+    /// The point isn't a zero of the ideal.
+    Off,
     /// The run on this list, which the question needs, made as many turns as its budget allows, and pairs are pending. The
     /// terms of the list fall in the printing order.
     StoppedPairs(Kept),

@@ -18,8 +18,14 @@ const FIRST_A: &[u8] = b"1: part (0,0) = y\n1: part (1,1) = 2*x+1\n";
 const OUTPUT_A: &[u8] =
     b"1: part (0,0) = y\n1: part (1,1) = 2*x+1\n2: part (0,0) = 2*x^4*y+y^3+x*y\n";
 
+/// A cusp over GF(5).
+const CUSP: &[u8] =
+    b"ring 5 x, y\npoly f = x^2+y^3\nask test f 4/5\nask left f 4/5\nask isjump f 4/5\nask isjump f 3/4\nask regular f 3/4\nask regular f 4/5\n";
+
+const CUSP_ANSWERS: &[u8] = b"1: (y, x)\n2: (1)\n3: yes\n4: no\n5: yes\n6: no\n";
+
 /// Parts, what is left for later, and what the words of the command line are.
-static PARTS: [Row<'static>; 26] = [
+static PARTS: [Row<'static>; 25] = [
     (GO, SESSION_A, 0, OUTPUT_A),
     (
         GO,
@@ -113,19 +119,13 @@ static PARTS: [Row<'static>; 26] = [
     // Questions that are left for later.
     (
         GO,
-        b"ring 2 x\npoly f = x\nask test f 1\n",
-        3,
-        b"1: later\n",
-    ),
-    (
-        GO,
         b"ring 2 x\npoly f = x\nideal J = (f, x)\n",
         2,
         b"fault Kind at 3:12\n",
     ),
     (
         GO,
-        b"ring 2 x\npoly f = x\nideal J = (x)\npoint P = (0)\nask fpure J P\nask parts 0 f\nask nu 1 f J\n",
+        b"ring 2 x\npoly f = x\nideal J = (x)\npoint P = (0)\nask threshold f P 1\nask parts 0 f\nask nu 1 f J\n",
         3,
         b"1: later\n2: part (0) = x\n3: later\n",
     ),
@@ -159,7 +159,7 @@ static IDEALS: [Row<'static>; 9] = [
     ),
     (
         GO,
-        b"ring 2 x, y\nideal J = (x^2+y, x*y+1)\nbudget 1\nask basis J\nbudget 3\nask basis J\norder lex\nbudget 100\nask basis J\n",
+        b"ring 2 x, y\nideal J = (x^2+y, x*y+1)\nbudget 1\nask basis J\nbudget 2\nask basis J\norder lex\nbudget 100\nask basis J\n",
         3,
         b"1: stopped pairs\n2: (y^2+x, x*y+1, x^2+y)\n3: (y^3+1, x+y^2)\n",
     ),
@@ -208,6 +208,142 @@ static IDEALS: [Row<'static>; 9] = [
         b"ring 2 x, y\nideal J = (x^2+y, x*y+1)\npoly f = x\nbudget 1\nask member f J\nask parts 0 f\n",
         3,
         b"1: stopped pairs\n2: part (0,0) = x\n",
+    ),
+];
+
+/// Meets and quotients, in each printing order, and what stops them.
+static ELIMINATION: [Row<'static>; 5] = [
+    (
+        GO,
+        b"ring 5 x, y\nideal J = (x^2, x*y)\nideal K = (x)\nideal Z = (0)\npoly h = x^2*y\nideal L = (x*y, x^2+x*y)\nask colon J K\nask colon J Z\nask colon Z K\nask sum J K\nask product J K\nask meet J K\nask same J L\nask same J K\nask member h J\n",
+        0,
+        b"1: (y, x)\n2: (1)\n3: (0)\n4: (x)\n5: (x^2*y, x^3)\n6: (x*y, x^2)\n7: yes\n8: no\n9: yes\n",
+    ),
+    (
+        GO,
+        b"ring 3 x, y\nideal J = (x)\nideal K = (y)\nask meet J K\nask colon J K\n",
+        0,
+        b"1: (x*y)\n2: (x)\n",
+    ),
+    // An ideal with itself, with zero, and by more members than one.
+    (
+        GO,
+        b"ring 7 x, y\nideal J = (x^2, x*y)\nideal M = (x, y)\nideal Z = (0)\nask meet J J\nask meet J Z\nask colon J J\nask colon J M\nask colon Z Z\n",
+        0,
+        b"1: (x*y, x^2)\n2: (0)\n3: (1)\n4: (x)\n5: (1)\n",
+    ),
+    // Seven variables, and the other printing orders.
+    (
+        GO,
+        b"ring 2 a, b, c, d, e, f, g\nideal J = (a*c+b^2)\nideal K = (g)\norder grlex\nask meet J K\norder lex\nask colon J K\n",
+        0,
+        b"1: (a*c*g+b^2*g)\n2: (a*c+b^2)\n",
+    ),
+    // Two pairs are pending after one turn.
+    (
+        GO,
+        b"ring 2 x, y\nideal J = (x)\nideal K = (y)\nbudget 1\nask meet J K\nask colon J K\nbudget 100\nask meet J K\n",
+        3,
+        b"1: stopped pairs\n2: stopped pairs\n3: (x*y)\n",
+    ),
+];
+
+/// Test ideals, limits from the left and F-jumping numbers at a fraction, in each printing order.
+static LIMITS: [Row<'static>; 6] = [
+    (GO, CUSP, 0, CUSP_ANSWERS),
+    (
+        GO,
+        b"ring 2 x\npoly f = x^5\nask test f 1/3\nask test f 2/3\nask left f 1/5\n",
+        0,
+        b"1: (x)\n2: (x^3)\n3: (1)\n",
+    ),
+    (
+        GO,
+        b"ring 2 x, y\npoly f = x\nideal J = (x^3, x*y^2)\nask test f 0\nask test f 8\nask left f 8\nask root 1 J\nask root 0 J\nask power 1 J\n",
+        0,
+        b"1: (1)\n2: (x^8)\n3: (x^7)\n4: (y, x)\n5: (x*y^2, x^3)\n6: (x^2*y^4, x^6)\n",
+    ),
+    // Jumps above 1, and where the fraction isn't in lowest terms.
+    (
+        GO,
+        b"ring 5 x, y\npoly f = x^2+y^3\nask isjump f 9/5\nask isjump f 16/20\nask isjump f 7/4\nask test f 9/5\nask left f 1\nask regular f 0\n",
+        0,
+        b"1: yes\n2: yes\n3: no\n4: (y^4+x^2*y, x*y^3+x^3)\n5: (y, x)\n6: yes\n",
+    ),
+    // The reduced basis for the printing order.
+    (
+        GO,
+        b"ring 3 x, y, z\npoly f = x*z+y^2\nask test f 1\norder grlex\nask test f 1\norder lex\nask left f 2\n",
+        0,
+        b"1: (y^2+x*z)\n2: (x*z+y^2)\n3: (x*z+y^2)\n",
+    ),
+    // Seven variables.
+    (
+        GO,
+        b"ring 13 a, b, c, d, e, f, g\npoly h = a*b*c*d*e*f*g\nask regular h 12/13\nask isjump h 1\nask test h 1\n",
+        0,
+        b"1: yes\n2: yes\n3: (a*b*c*d*e*f*g)\n",
+    ),
+];
+
+/// F-purity, the ideal of splittings and compatible ideals, and what stops them.
+static SPLITTINGS: [Row<'static>; 9] = [
+    (
+        GO,
+        b"ring 5 x, y, z\nideal F = (x^3+y^3+z^3)\nask fpure F\n",
+        0,
+        b"1: no\n",
+    ),
+    (
+        GO,
+        b"ring 7 x, y, z\nideal F = (x^3+y^3+z^3)\nideal axes = (x*y, x*z, y*z)\nask fpure F\nask fpure axes\nask split axes\n",
+        0,
+        b"1: yes\n2: yes\n3: (1)\n",
+    ),
+    (
+        GO,
+        b"ring 2 x, y, z\nideal A = (x*y, x*z, y*z)\nideal B = (x^2)\nideal C = (0)\nideal D = (1)\nask fpure A\nask fpure B\nask fpure C\nask fpure D\nask split B\n",
+        0,
+        b"1: yes\n2: no\n3: yes\n4: yes\n5: (x)\n",
+    ),
+    (
+        GO,
+        b"ring 2 x, y\nideal J = (x^2*y+x^2)\npoint P = (1, 1)\npoint Q = (0, 0)\npoint R = (1, 0)\nask fpure J\nask fpure J P\nask fpure J Q\nask fpure J R\n",
+        0,
+        b"1: no\n2: yes\n3: no\n4: off\n",
+    ),
+    (
+        GO,
+        b"ring 2 x, y\nideal J = (x*y^2+x)\npoint O = (0, 0)\nask fpure J\nask fpure J O\n",
+        0,
+        b"1: no\n2: yes\n",
+    ),
+    (
+        GO,
+        b"ring 3 x, y\npoly u = x^2*y^2\nideal J = (x)\nideal K = (x+y)\nask compatible 1 u J\nask compatible 1 u K\nask compatible 0 u K\nask compatible 12 u J\n",
+        0,
+        b"1: yes\n2: no\n3: yes\n4: no\n",
+    ),
+    // The reduced basis for the printing order: of the double of a quadric the quadric.
+    (
+        GO,
+        b"ring 2 x, y, z\nideal J = ((x*z+y^2)^2)\nask split J\norder lex\nask split J\n",
+        0,
+        b"1: (y^2+x*z)\n2: (x*z+y^2)\n",
+    ),
+    // Seven variables.
+    (
+        GO,
+        b"ring 13 a, b, c, d, e, f, g\nideal J = (a*b*c*d*e*f*g)\npoint P = (0, 1, 2, 3, 4, 5, 6)\nask fpure J\nask fpure J P\n",
+        0,
+        b"1: yes\n2: yes\n",
+    ),
+    // The list of the quotient takes more turns than the ideal.
+    (
+        GO,
+        b"ring 2 x, y, z\nideal A = (x*y, x*z, y*z)\npoint O = (0, 0, 0)\npoint P = (1, 1, 1)\nbudget 3\nask fpure A\nask split A\nask fpure A O\nask fpure A P\n",
+        3,
+        b"1: stopped pairs\n2: stopped pairs\n3: stopped pairs\n4: off\n",
     ),
 ];
 
@@ -330,6 +466,9 @@ fn all_end(rt: &impl Abort, alloc: Global, rows: &[Row<'static>]) -> Result<(), 
 fn answers_sessions(rt: HostRuntime) -> Result<(), Fail> {
     all_end(&rt, rt.alloc(), &PARTS)?;
     all_end(&rt, rt.alloc(), &IDEALS)?;
+    all_end(&rt, rt.alloc(), &ELIMINATION)?;
+    all_end(&rt, rt.alloc(), &LIMITS)?;
+    all_end(&rt, rt.alloc(), &SPLITTINGS)?;
     all_end(&rt, rt.alloc(), &FAULTS)
 }
 
@@ -345,6 +484,14 @@ fn fails_as_the_outside_does(rt: HostRuntime) -> Result<(), Fail> {
         )?;
     }
     Ok(())
+}
+
+// A failed read leaves the sink empty, a failed write what was written before.
+#[test]
+fn limits_fail_as_the_outside_does(rt: HostRuntime) -> Result<(), Fail> {
+    let alloc = rt.alloc();
+    ends(&rt, alloc, (GO, CUSP, 4, b""), (10, 2, 1000, 0))?;
+    ends(&rt, alloc, (GO, CUSP, 5, b"1: (y, x)\n"), (10, 0, 1000, 2))
 }
 
 #[test]

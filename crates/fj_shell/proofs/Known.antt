@@ -1,11 +1,12 @@
 -- What is known of the values and the questions of an accepted session.
-use Rattle.std.proofs.Common.{◌≡◌, ◌≢◌, ℕ, ◌≤◌, ◌^◌, List, length, All, Contains, Option, option_map, Some, None, refl, sym, ap, ◌∙◌, subst, arith}
+use Rattle.std.proofs.Common.{◌≡◌, ◌≢◌, ℕ, ◌≤◌, ◌^◌, Bool, true, false, List, length, All, Contains, Option, option_map, Some, None, refl, sym, ap, ◌∙◌, subst, arith}
 use Rattle.std.specs.List.{slice_get}
 use Rattle.std.proofs.lemmas.List.Elements.{All-contains, All-weaker}
 use Rattle.std.proofs.lemmas.Option.{get_or_from_slice_get, none-some, same_Some, slice_get-map, slice_get_within}
 use Rattle.fj_algebra.proofs.Lists.{All-map_back}
 use Rattle.fj_coeff.specs.Field.{primes}
 use Rattle.fj_theory.specs.Exponents.{total}
+use Rattle.fj_theory.specs.Fraction.{Fraction}
 use Rattle.fj_theory.specs.Plain.{HasRanksBelow, PlainPolynomial, polynomial}
 use Rattle.fj_theory.specs.PointIdeal.{UsesFirst}
 use Rattle.fj_plain.specs.declared.order_name.OrderName.TheVariants as orders
@@ -17,11 +18,12 @@ use Rattle.fj_script.specs.declared.script.Env.{Env}
 use Rattle.fj_script.specs.declared.value.Value as held
 use Rattle.fj_script.specs.declared.value.Value.TheVariants as values
 use Rattle.fj_script.specs.Seen.{seen, seen_values}
-use Rattle.fj_script.specs.Session.{Terms, Value, Poly, Ideal}
+use Rattle.fj_script.specs.Session.{Terms, Value, Poly, Ideal, Point, is_nonconstant}
 use Rattle.fj_script.proofs.Accepted.{accepted_sound}
-use Rattle.fj_script.proofs.AcceptedArguments.{IsSoundQuestion, NamesIdeal, NamesPoly, is_ideal, is_poly}
+use Rattle.fj_script.proofs.AcceptedArguments.{IsExponent, IsSoundQuestion, NamesIdeal, NamesNonconstant, NamesPoint, NamesPoly, is_ideal, is_nonconstant_poly, is_point, is_poly}
 use Rattle.fj_script.proofs.AcceptedDeclarations.{AreSound, IsSoundAsked, IsSoundValue}
-use Rattle.fj_shell.specs.Asked.{AreOfOneSession, IsIdealAt, IsPartsQuestion, IsPolyAt}
+use Rattle.fj_shell.specs.Asked.{AreOfOneSession, IsIdealAt, IsNonconstantAt, IsPartsQuestion, IsPointAt, IsPolyAt}
+use Rattle.fj_shell.proofs.Nonconstant.{has_small_degree}
 
 -- The values of a ring are over GF(p), in its variables.
 abbrev pub AreSoundValues : Env → Type 0
@@ -94,6 +96,27 @@ module _ (env : Env) (place : ℕ) where
         by (values.Ideal fs) ts e is sound = absurd cc
         by (values.Point cs) ts e is sound = absurd cc
 
+    pub nonconstant_at : Contains primes env.p → NamesNonconstant (seen_values env.values) place → IsNonconstantAt env place
+    nonconstant_at prime h =
+        let b = behind h.name h.value h.is in
+        let shape = is_nonconstant_poly h.value h.fits in
+        by b.0 shape.0 b.1 (sym b.2 ∙ shape.1) shape.2 (subst (IsSoundValue env.p (length env.vars)) b.2 (sound_at h.name h.value h.is))
+      where
+        by : (v : held.Value) (ts : Terms) → slice_get env.values place ≡ Some (h.name, v) → seen v ≡ Poly ts → is_nonconstant ts ≡ true → IsSoundValue env.p (length env.vars) (seen v) → IsNonconstantAt env place
+        by (values.Poly f) ts e is some sound =
+            let same : f.terms ≡ ts = cc in
+            let ranks = ranks_below env.p (length env.vars) f sound in
+            let found = has_small_degree prime f ranks sound.low (subst (λ us. is_nonconstant us ≡ true) (sym same) some) in
+            record {
+              poly = record { name = h.name; f = f; stands = e; ranks = ranks; low = totals_low env.p (length env.vars) f sound; variables = in_variables env.p (length env.vars) f sound };
+              total = found.total;
+              has_degree = found.has_degree;
+              nonconstant = found.nonconstant;
+              bounded = found.bounded;
+            }
+        by (values.Ideal fs) ts e is some sound = absurd cc
+        by (values.Point cs) ts e is some sound = absurd cc
+
     pub ideal_at : NamesIdeal (seen_values env.values) place → IsIdealAt env place
     ideal_at h =
         let b = behind h.name h.value h.is in
@@ -114,6 +137,17 @@ module _ (env : Env) (place : ℕ) where
               variables = weaker (λ f. UsesFirst (length env.vars) (polynomial f)) (in_variables env.p (length env.vars));
             }
         by (values.Point cs) gs e is sound = absurd cc
+
+    pub point_at : NamesPoint (seen_values env.values) place → IsPointAt env place
+    point_at h =
+        let b = behind h.name h.value h.is in
+        let shape = is_point h.value h.fits in
+        by b.0 shape.0 b.1 (sym b.2 ∙ shape.1) (subst (IsSoundValue env.p (length env.vars)) b.2 (sound_at h.name h.value h.is))
+      where
+        by : (v : held.Value) (cs : List ℕ) → slice_get env.values place ≡ Some (h.name, v) → seen v ≡ Point cs → IsSoundValue env.p (length env.vars) (seen v) → IsPointAt env place
+        by (values.Poly f) cs e is sound = absurd cc
+        by (values.Ideal fs) cs e is sound = absurd cc
+        by (values.Point ds) cs e is sound = record { name = h.name; coordinates = ds; stands = e; below = sound.1; long = sound.0 }
 
 pub prime_known : (env : Env) (asked : Asked) → AreOfOneSession env asked → Contains primes env.p
 prime_known env asked one = (known env asked one).prime
@@ -159,6 +193,29 @@ sum_question env asked j k one is = both_at env j k (values_known env asked one)
 pub product_question : (env : Env) (asked : Asked) (j k : ℕ) → AreOfOneSession env asked → asked.question ≡ questions.Product j k → IsIdealAt env j × IsIdealAt env k
 product_question env asked j k one is = both_at env j k (values_known env asked one) (question_known env asked (questions.Product j k) one is)
 
+pub meet_question : (env : Env) (asked : Asked) (j k : ℕ) → AreOfOneSession env asked → asked.question ≡ questions.Meet j k → IsIdealAt env j × IsIdealAt env k
+meet_question env asked j k one is = both_at env j k (values_known env asked one) (question_known env asked (questions.Meet j k) one is)
+
+pub colon_question : (env : Env) (asked : Asked) (j k : ℕ) → AreOfOneSession env asked → asked.question ≡ questions.Colon j k → IsIdealAt env j × IsIdealAt env k
+colon_question env asked j k one is = both_at env j k (values_known env asked one) (question_known env asked (questions.Colon j k) one is)
+
+-- A polynomial that isn't constant, and an exponent.
+exponent_at : (env : Env) (asked : Asked) (positive : Bool) (f : ℕ) (t : Fraction) → AreOfOneSession env asked → NamesNonconstant (seen_values env.values) f × IsExponent positive t
+    → IsNonconstantAt env f × IsExponent positive t
+exponent_at env asked positive f t one h = (nonconstant_at env f (values_known env asked one) (prime_known env asked one) h.0, h.1)
+
+pub test_question : (env : Env) (asked : Asked) (f : ℕ) (t : Fraction) → AreOfOneSession env asked → asked.question ≡ questions.Test f t → IsNonconstantAt env f × IsExponent false t
+test_question env asked f t one is = exponent_at env asked false f t one (question_known env asked (questions.Test f t) one is)
+
+pub left_question : (env : Env) (asked : Asked) (f : ℕ) (t : Fraction) → AreOfOneSession env asked → asked.question ≡ questions.Left f t → IsNonconstantAt env f × IsExponent true t
+left_question env asked f t one is = exponent_at env asked true f t one (question_known env asked (questions.Left f t) one is)
+
+pub is_jump_question : (env : Env) (asked : Asked) (f : ℕ) (t : Fraction) → AreOfOneSession env asked → asked.question ≡ questions.IsJump f t → IsNonconstantAt env f × IsExponent true t
+is_jump_question env asked f t one is = exponent_at env asked true f t one (question_known env asked (questions.IsJump f t) one is)
+
+pub regular_question : (env : Env) (asked : Asked) (f : ℕ) (t : Fraction) → AreOfOneSession env asked → asked.question ≡ questions.Regular f t → IsNonconstantAt env f × IsExponent false t
+regular_question env asked f t one is = exponent_at env asked false f t one (question_known env asked (questions.Regular f t) one is)
+
 -- An e and an ideal.
 small_at : (env : Env) (e j : ℕ) → AreSoundValues env → (e ≤ 12) × NamesIdeal (seen_values env.values) j → (e ≤ 12) × IsIdealAt env j
 small_at env e j vs h = (h.0, ideal_at env j vs h.1)
@@ -168,3 +225,21 @@ power_question env asked e j one is = small_at env e j (values_known env asked o
 
 pub root_question : (env : Env) (asked : Asked) (e j : ℕ) → AreOfOneSession env asked → asked.question ≡ questions.Root e j → (e ≤ 12) × IsIdealAt env j
 root_question env asked e j one is = small_at env e j (values_known env asked one) (question_known env asked (questions.Root e j) one is)
+
+pub pure_question : (env : Env) (asked : Asked) (j : ℕ) → AreOfOneSession env asked → asked.question ≡ questions.Pure j → IsIdealAt env j
+pure_question env asked j one is = ideal_at env j (values_known env asked one) (question_known env asked (questions.Pure j) one is)
+
+pub pure_at_question : (env : Env) (asked : Asked) (j at : ℕ) → AreOfOneSession env asked → asked.question ≡ questions.PureAt j at → IsIdealAt env j × IsPointAt env at
+pure_at_question env asked j at one is =
+    let q = question_known env asked (questions.PureAt j at) one is in
+    let vs = values_known env asked one in
+    (ideal_at env j vs q.0, point_at env at vs q.1)
+
+pub split_question : (env : Env) (asked : Asked) (j : ℕ) → AreOfOneSession env asked → asked.question ≡ questions.Split j → IsIdealAt env j
+split_question env asked j one is = ideal_at env j (values_known env asked one) (question_known env asked (questions.Split j) one is)
+
+pub compatible_question : (env : Env) (asked : Asked) (e u j : ℕ) → AreOfOneSession env asked → asked.question ≡ questions.Compatible e u j → (e ≤ 12) × IsPolyAt env u × IsIdealAt env j
+compatible_question env asked e u j one is =
+    let q = question_known env asked (questions.Compatible e u j) one is in
+    let vs = values_known env asked one in
+    (q.0, poly_at env u vs q.1, ideal_at env j vs q.2)

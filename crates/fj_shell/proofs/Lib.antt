@@ -1,3 +1,4 @@
+pub mod Nonconstant
 pub mod Known
 pub mod Pieces
 pub mod ReadBytes

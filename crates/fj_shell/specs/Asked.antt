@@ -1,9 +1,10 @@
 -- Questions of accepted sessions.
-use Rattle.std.specs.Prelude.{◌≡◌, ℕ, ◌≤◌, ◌^◌, List, All, Contains, Ok, Some, length, slice_get}
+use Rattle.std.specs.Prelude.{◌≡◌, ℕ, ◌<◌, ◌≤◌, ◌^◌, List, All, Contains, Ok, Some, length, slice_get}
 use Rattle.fj_coeff.specs.Field.{primes}
 use Rattle.fj_theory.specs.Exponents.{total}
 use Rattle.fj_theory.specs.Plain.{HasRanksBelow, PlainPolynomial, polynomial}
 use Rattle.fj_theory.specs.PointIdeal.{UsesFirst}
+use Rattle.fj_theory.specs.Polynomial.{degree}
 use Rattle.fj_script.specs.declared.question.Asked.{Asked}
 use Rattle.fj_script.specs.declared.script.Env.{Env}
 use Rattle.fj_script.specs.declared.script.Script.{Script}
@@ -32,6 +33,14 @@ pub record IsPolyAt (env : Env) (place : ℕ) : Type 0 where
   pub low : All (λ t. total t.0 ≤ 2 ^ 40) f.terms
   pub variables : UsesFirst (length env.vars) (polynomial f)
 
+-- It isn't constant, and has a degree of at most 1,000.
+pub record IsNonconstantAt (env : Env) (place : ℕ) : Type 0 where
+  pub poly : IsPolyAt env place
+  pub total : ℕ
+  pub has_degree : degree (polynomial poly.f) ≡ Some total
+  pub nonconstant : 0 < total
+  pub bounded : total ≤ 1000
+
 -- The name at this place stands for an ideal, whose generators are over GF(p) in the variables of the ring.
 pub record IsIdealAt (env : Env) (place : ℕ) : Type 0 where
   pub name : List ℕ
@@ -40,6 +49,14 @@ pub record IsIdealAt (env : Env) (place : ℕ) : Type 0 where
   pub ranks : All (HasRanksBelow env.p) gens
   pub low : All (λ g. All (λ t. total t.0 ≤ 2 ^ 40) g.terms) gens
   pub variables : All (λ g. UsesFirst (length env.vars) (polynomial g)) gens
+
+-- The name at this place stands for a point over GF(p), with a coordinate for each variable of the ring.
+pub record IsPointAt (env : Env) (place : ℕ) : Type 0 where
+  pub name : List ℕ
+  pub coordinates : List ℕ
+  pub stands : slice_get env.values place ≡ Some (name, values.Point coordinates)
+  pub below : All (λ c. c < env.p) coordinates
+  pub long : length coordinates ≡ length env.vars
 
 -- What is known of a question for parts in an accepted session.
 pub record IsPartsQuestion (env : Env) (e place : ℕ) : Type 0 where

@@ -1,4 +1,4 @@
--- What the names of a session stand for, as polynomials and lists of polynomials.
+-- What the names of a session stand for, as polynomials, lists of polynomials and points.
 use Rattle.std.specs.Prelude.{ℕ, List, [], Some, None, map, slice_get}
 use Rattle.std.specs.FinMap.{empty}
 use Rattle.fj_theory.specs.Plain.{PlainPolynomial, polynomial}
@@ -20,6 +20,11 @@ polynomial_of (values.Poly f) = polynomial f
 polynomial_of (values.Ideal gens) = empty
 polynomial_of (values.Point c) = empty
 
+abbrev pub coordinates : Value → List ℕ
+coordinates (values.Poly f) = []
+coordinates (values.Ideal gens) = []
+coordinates (values.Point c) = c
+
 -- The generators of the ideal whose name has this place among the declared ones.
 abbrev pub ideal_at : Env → ℕ → List Polynomial
 ideal_at env place = elim (slice_get env.values place) [ None ↦ [] | Some named ↦ generators named.1 ]
@@ -27,3 +32,7 @@ ideal_at env place = elim (slice_get env.values place) [ None ↦ [] | Some name
 -- The polynomial whose name has this place.
 abbrev pub polynomial_at : Env → ℕ → Polynomial
 polynomial_at env place = elim (slice_get env.values place) [ None ↦ empty | Some named ↦ polynomial_of named.1 ]
+
+-- The coordinates of the point whose name has this place.
+abbrev pub point_at : Env → ℕ → List ℕ
+point_at env place = elim (slice_get env.values place) [ None ↦ [] | Some named ↦ coordinates named.1 ]

@@ -42,7 +42,7 @@ pub use Rattle.fj_groebner.specs.ReducedBasis.{IsReducedBasis}
 -- For stops alone: the division of a polynomial by a list; a turn of a run, and a run of some turns; the run on a list is
 -- finished, has pairs left at the end of its budget, or comes to a degree above 2^40.
 pub use Rattle.fj_groebner.specs.Division.{IsDivision}
-pub use Rattle.fj_groebner.specs.Run.{IsTurn, IsRun, IsFinished, Unfinished, TooHigh}
+pub use Rattle.fj_groebner.specs.Run.{IsSpared, AreRemovals, IsTurn, IsRun, IsFinished, Unfinished, TooHigh}
 
 -- In the crates above:
 -- the script of a session, or its first fault: fj_script, module Script (the grammar of sessions: fj_grammar, module Grammar);

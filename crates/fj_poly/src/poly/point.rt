@@ -1,3 +1,4 @@
+//! Points, and the values of polynomials there.
 ghost use Rattle.std.specs.Prelude.{◌≡◌, ◌≤◌, IfOk, length, map, slice_index};
 ghost use Rattle.fj_coeff.specs.Field as field;
 ghost use Rattle.fj_theory.specs.Evaluation.{IsPoint, monomial_value, value};

@@ -1,3 +1,4 @@
+//! Multiples, products and powers.
 ghost use Rattle.std.specs.Prelude.{◌≡◌, ◌≢◌, ◌↔◌, All, IfOk, IsTrue, OnOk};
 ghost use Rattle.std.specs.FinMap.{from_entries};
 ghost use Rattle.fj_coeff.specs.Field as field;

@@ -34,7 +34,7 @@ returns-then-made-pairs-clause-fault g c =
     record {
       last = after.state;
       run = subst (λ n. IsRun g.K.Coeff.field g.O.Order.key c.args.list.now n after.state) c.if-made-pairs.true after.run;
-      some_pending = some-pending g.O.Order.key after.state c.loop-alloc.run.pending.keys after.pending (λ e. true≢false (sym (c.is_done.ensures.1 e) ∙ c.loop-alloc-test.true));
+      some_pending = some-pending g.O.Order.key after.state c.loop-alloc.run.pending.pairs after.pending (λ e. true≢false (sym (c.is_done.ensures.1 e) ∙ c.loop-alloc-test.true));
     }
 
 pub returns-in_err-turn-clause-fault : goal.returns-in_err-turn-clause-fault

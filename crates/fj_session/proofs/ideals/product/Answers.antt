@@ -1,6 +1,5 @@
 use Rattle.std.proofs.Common.{◌≡◌, inl, inr, sym, subst, refl}
 use Rattle.std.specs.Prelude.{MatchOption}
-use Rattle.fj_theory.specs.Polynomial.{Polynomial}
 use Rattle.fj_ideal.specs.Ideal.{IsIdealOf}
 use Rattle.fj_ideal.specs.Lists.{IsHighPair, IsProductList, OfBasis}
 use Rattle.fj_ideal.proofs.Lists.{of_members}

@@ -1,4 +1,4 @@
-use Rattle.std.proofs.Common.{◌≡◌, ◌^◌, List, IfOk, inl, inr, subst, refl}
+use Rattle.std.proofs.Common.{◌^◌, List, IfOk, inl, inr, subst, refl}
 use Rattle.fj_theory.specs.Polynomial.{Polynomial}
 use Rattle.fj_theory.specs.Root.{IsRoot}
 use Rattle.fj_ideal.specs.Ideal.{IsIdeal}

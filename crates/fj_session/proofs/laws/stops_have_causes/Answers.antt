@@ -7,7 +7,7 @@ use Rattle.fj_script.specs.declared.script.Env.{Env}
 use Rattle.fj_session.specs.Answer.{IsAnswer}
 use Rattle.fj_session.specs.AnswerLaws.{IsStop, NothingStopsIt, meaning_in}
 use Rattle.fj_session.specs.declared.types.Answer.{Answer}
-use Rattle.fj_session.specs.declared.types.Answer.TheVariants.{Parts, Ideal, Yes, No, StoppedPairs, StoppedHigh, Later}
+use Rattle.fj_session.specs.declared.types.Answer.TheVariants.{Parts, Ideal, Yes, No, Off, StoppedPairs, StoppedHigh, Later}
 use Rattle.fj_session.proofs.laws.stops_have_causes.Goals as goal
 
 module _ (env : Env) (asked : Asked) (none : NothingStopsIt env asked) where
@@ -22,6 +22,7 @@ module _ (env : Env) (asked : Asked) (none : NothingStopsIt env asked) where
   no_stop (Ideal list) h stop = stop
   no_stop Yes h stop = stop
   no_stop No h stop = stop
+  no_stop Off h stop = stop
   no_stop Later h stop = stop
 
 pub returns : goal.returns

@@ -1,4 +1,4 @@
-use Rattle.std.proofs.Common.{◌≡◌, ◌≢◌, sym, ◌∙◌, refl}
+use Rattle.std.proofs.Common.{◌≢◌, sym}
 use Rattle.fj_plain.specs.declared.order_name.OrderName.TheVariants.{Lex, Grlex, Grevlex, Elim}
 use Rattle.fj_session.proofs.PrintStops.{print_stops}
 use Rattle.fj_session.proofs.shown.shown_basis.Goals as goal

@@ -1,17 +1,14 @@
-use Rattle.std.proofs.Common.{◌+◌, sym, subst, arith}
+use Rattle.std.proofs.Common.{◌+◌, refl, sym, subst, arith}
 use Rattle.fj_basis.specs.State.{IsFirstMember}
 use Rattle.fj_basis.proofs.Starting.{IsStarted, first-IsTraced, first-nonzero, started-all, started-more, started-none, started-zero}
 use Rattle.fj_basis.proofs.run.Run.start.Goals as goal
 use Rattle.fj_basis.proofs.run.Run.start.Goals.{in-Some+in_ok-append, in_default}
 
 pub loop-j-init : goal.loop-j-init
-loop-j-init g c = started-none c.args.list.now _ c.new.ensures.items c.new-2.ensures.empty
+loop-j-init g c = started-none c.args.list.now _ c.new.ensures.items c.new-2.ensures.leads c.new-2.ensures.pairs
 
-pub append-requires-clause-nonzero : goal.append-requires-clause-nonzero
-append-requires-clause-nonzero g c = c.loop-j.invariant.nonzero
-
-pub append-requires-clause-member : goal.append-requires-clause-member
-append-requires-clause-member g c =
+pub append-requires : goal.append-requires
+append-requires g c =
     let first = subst (IsFirstMember g.K.Coeff.field g.O.Order.key c.args.list.now c.loop-j.j) c.in-Some.is c.in_ok-member.ensures in
     first-nonzero c.args.list.now g.met.K.Coeff.lawful g.met.O.Order.monomial_order c.look_over.ensures c.loop-j.j c.loop-j-test.true c.in-Some.member first.found.0 first.found.1
 
@@ -32,11 +29,11 @@ loop-j-preserved g c =
           let traced = first-IsTraced list L O A j l m first.found.0 first.found.1 first.found.2 first.found.3 in
           let nonzero = first-nonzero list L O A j l m first.found.0 first.found.1 in
           subst (IsStarted F key list (j + 1)) (sym w.run-is)
-          (started-more list j c.loop-j.run w.append.new.self m l first.found.0 first.found.1 traced nonzero w.in_ok-append.ensures.members w.in_ok-append.ensures.pending c.loop-j.invariant))
+          (started-more list j c.loop-j.run w.append.new.self m l first.found.0 first.found.1 traced nonzero w.in_ok-append.ensures.members w.in_ok-append.ensures.leads w.in_ok-append.ensures.pending c.loop-j.invariant))
       | in_default w ↦
           (let first = subst (IsFirstMember F key list j) w.in_default.is c.in_ok-member.ensures in
           subst (IsStarted F key list (j + 1)) (sym w.run-is) (started-zero list j c.loop-j.run l first.found c.loop-j.invariant))
     ]
 
 pub returns : goal.returns
-returns g c = started-all c.args.list.now c.look_over.ensures c.loop-j.j c.loop-j.run (omega (arith, c.loop-j-test.false)) c.loop-j.invariant
+returns g c = started-all c.args.list.now c.look_over.ensures c.loop-j.j c.loop-j.run _ (omega (arith, c.loop-j-test.false)) c.loop-j.invariant refl c.remove_spared.ensures

@@ -1,78 +1,8 @@
-use Rattle.std.proofs.Common.{refl, sym, ◌∙◌, subst, arith}
-use Rattle.std.proofs.lemmas.Result.{err_from_is_err_and}
-use Rattle.fj_basis.specs.State.{IsNextMember}
-use Rattle.fj_basis.proofs.HighOnly.{only_only}
-use Rattle.fj_basis.proofs.Turning.{after-appended, after-dropped, after-empty, after-nonzero, first-places, members-of, next-high, next-nonzero}
+use Rattle.std.proofs.Common.{refl}
+use Rattle.fj_basis.proofs.Turning.{after-removals}
 use Rattle.fj_basis.proofs.run.Run.turn.Goals as goal
 
-pub has_coprime_leads-requires-clause-nonzero : goal.has_coprime_leads-requires-clause-nonzero
-has_coprime_leads-requires-clause-nonzero g c = after-nonzero g.met.K.Coeff.lawful g.met.O.Order.monomial_order c.requires.state.after
-
-pub has_coprime_leads-requires-clause-first : goal.has_coprime_leads-requires-clause-first
-has_coprime_leads-requires-clause-first g c =
-    let removal = rw c.unwrap-pair.ensures at c.pop_first.ensures.removal in
-    let places = first-places g.met.K.Coeff.lawful g.met.O.Order.monomial_order c.requires.state.after c.unwrap-pair.result c.pop_first.new.self.keys removal in
-    omega (arith, places.0, places.1)
-
-pub has_coprime_leads-requires-clause-second : goal.has_coprime_leads-requires-clause-second
-has_coprime_leads-requires-clause-second g c =
-    let removal = rw c.unwrap-pair.ensures at c.pop_first.ensures.removal in
-    (first-places g.met.K.Coeff.lawful g.met.O.Order.monomial_order c.requires.state.after c.unwrap-pair.result c.pop_first.new.self.keys removal).1
-
-pub returns-then-has_coprime_leads-clause-turn : goal.returns-then-has_coprime_leads-clause-turn
-returns-then-has_coprime_leads-clause-turn g c = λ N turns after.
-    let removal = rw c.unwrap-pair.ensures at c.pop_first.ensures.removal in
-    let above = rw c.unwrap-pair.ensures at c.pop_first.ensures.all_above in
-    after-dropped g.met.K.Coeff.lawful g.met.O.Order.monomial_order after c.unwrap-pair.result c.pop_first.new.self.keys removal above _ refl refl (sym c.has_coprime_leads.ensures ∙ c.if-has_coprime_leads.true)
-
-pub next_member-requires-clause-first : goal.next_member-requires-clause-first
-next_member-requires-clause-first g c =
-    let removal = rw c.unwrap-pair.ensures at c.pop_first.ensures.removal in
-    (first-places g.met.K.Coeff.lawful g.met.O.Order.monomial_order c.requires.state.after c.unwrap-pair.result c.pop_first.new.self.keys removal).0
-
-pub next_member-requires-clause-second : goal.next_member-requires-clause-second
-next_member-requires-clause-second g c =
-    let removal = rw c.unwrap-pair.ensures at c.pop_first.ensures.removal in
-    (first-places g.met.K.Coeff.lawful g.met.O.Order.monomial_order c.requires.state.after c.unwrap-pair.result c.pop_first.new.self.keys removal).1
-
-pub returns-in_err-member-clause-high : goal.returns-in_err-member-clause-high
-returns-in_err-member-clause-high g c =
-    let removal = rw c.unwrap-pair.ensures at c.pop_first.ensures.removal in
-    let above = rw c.unwrap-pair.ensures at c.pop_first.ensures.all_above in
-    let p = err_from_is_err_and c.from_residual.result c.from_residual.ensures.1 in
-    only_only (Unit {0}) _ _ _ _ p.0 c.in_err-member.field-0.0 p.1 p.2
-    (λ high. record {
-      high = λ N turns after.
-          next-high g.met.K.Coeff.lawful g.met.O.Order.monomial_order after c.unwrap-pair.result c.pop_first.new.self.keys removal above (sym c.has_coprime_leads.ensures ∙ c.if-has_coprime_leads.false) high;
-    })
-    c.in_err-member.ensures.high
-
-pub append-requires-clause-nonzero : goal.append-requires-clause-nonzero
-append-requires-clause-nonzero g c = after-nonzero g.met.K.Coeff.lawful g.met.O.Order.monomial_order c.requires.state.after
-
-pub append-requires-clause-member : goal.append-requires-clause-member
-append-requires-clause-member g c =
-    let items = c.args.self.now.members.items in
-    let pair = c.unwrap-pair.result in
-    let found = subst (IsNextMember g.K.Coeff.field g.O.Order.key items (pair.i, pair.j)) c.in-Some.is c.in_ok-member.ensures.value in
-    next-nonzero g.met.K.Coeff.lawful g.met.O.Order.monomial_order items (members-of c.requires.state.after) pair.i pair.j c.in-Some.member found
-
-pub returns-in_ok-append-clause-turn : goal.returns-in_ok-append-clause-turn
-returns-in_ok-append-clause-turn g c = λ N turns after.
-    let removal = rw c.unwrap-pair.ensures at c.pop_first.ensures.removal in
-    let above = rw c.unwrap-pair.ensures at c.pop_first.ensures.all_above in
-    let items = c.args.self.now.members.items in
-    let pair = c.unwrap-pair.result in
-    let found = subst (IsNextMember g.K.Coeff.field g.O.Order.key items (pair.i, pair.j)) c.in-Some.is c.in_ok-member.ensures.value in
-    after-appended g.met.K.Coeff.lawful g.met.O.Order.monomial_order after pair c.pop_first.new.self.keys removal above (sym c.has_coprime_leads.ensures ∙ c.if-has_coprime_leads.false)
-    c.append.new.self c.in-Some.member c.in_ok-append.ensures.members c.in_ok-append.ensures.pending found
-
-pub returns-in_default-clause-turn : goal.returns-in_default-clause-turn
-returns-in_default-clause-turn g c = λ N turns after.
-    let removal = rw c.unwrap-pair.ensures at c.pop_first.ensures.removal in
-    let above = rw c.unwrap-pair.ensures at c.pop_first.ensures.all_above in
-    let items = c.args.self.now.members.items in
-    let pair = c.unwrap-pair.result in
-    let found = subst (IsNextMember g.K.Coeff.field g.O.Order.key items (pair.i, pair.j)) c.in_default.is c.in_ok-member.ensures.value in
-    after-empty g.met.K.Coeff.lawful g.met.O.Order.monomial_order after pair c.pop_first.new.self.keys removal above (sym c.has_coprime_leads.ensures ∙ c.if-has_coprime_leads.false)
-    _ refl refl found
+pub returns-clause-turn : goal.returns-clause-turn
+returns-clause-turn g c = λ N turns after.
+    after-removals c.treat_next.new.self (record { members = c.treat_next.new.self.members; pending = c.remove_spared.new.self }) (c.in_ok-treat_next.ensures.turn N turns after) refl
+    c.remove_spared.ensures

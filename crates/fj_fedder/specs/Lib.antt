@@ -1,0 +1,2 @@
+pub mod Fedder
+pub mod Lists
