@@ -1,5 +1,5 @@
 -- A dividend whose leading term is taken out, and the steps of a division on what is left.
-use Rattle.std.proofs.Common.{◌≡◌, ◌≢◌, ℕ, ◌+◌, ◌^◌, ◌<◌, ◌≤◌, max, List, [], ◌∷◌, get_or, set, IsTrue, Some, refl, sym, ap, ap₂, ◌∙◌, subst, arith}
+use Rattle.std.proofs.Common.{◌≡◌, ◌≢◌, ◌⊎◌, inl, inr, ℕ, ◌+◌, ◌<◌, max, List, [], ◌∷◌, get_or, set, IsTrue, Some, refl, sym, ap, ap₂, ◌∙◌, subst, arith, ⊎_elim, eq-zero-or-pos}
 use Rattle.std.specs.FinMap.{empty, get}
 use Rattle.fj_coeff.specs.Field.{Field, IsField}
 use Rattle.fj_algebra.specs.Ring.{CommutativeRing, subtract}
@@ -11,13 +11,13 @@ use Rattle.fj_theory.specs.Polynomial.{Polynomial, IsPolynomial, IsFalling, coef
 use Rattle.fj_theory.proofs.Exponents.{IsExponents-minus, plus-minus, plus_comm}
 use Rattle.fj_theory.proofs.Field.{zero_below}
 use Rattle.fj_theory.proofs.IdealBridge.{over}
-use Rattle.fj_theory.proofs.Lead.{IsExponents-lead, lead_coefficient-below, lead_coefficient-nonzero}
+use Rattle.fj_theory.proofs.Lead.{IsExponents-lead, coefficient-lead, lead_coefficient-below, lead_coefficient-nonzero}
 use Rattle.fj_theory.proofs.Monomial.{product_terms}
 use Rattle.fj_theory.proofs.Polynomial.{IsPolynomial-term}
-use Rattle.fj_theory.proofs.PolynomialRing.{polynomial_ring, map_add, map_neg, map_subtract, product_sum}
+use Rattle.fj_theory.proofs.PolynomialRing.{polynomial_ring, map_add, map_neg, map_subtract, product_sum, coefficient-negation, neg_zero_rank}
 use Rattle.fj_theory.proofs.Product.{IsPolynomial-product}
 use Rattle.fj_theory.proofs.Terms.{terms_falling-IsFalling, from_entries-terms_falling, IsTerm-terms_falling}
-use Rattle.fj_groebner.specs.Division.{Division, cancel_lead, move_lead}
+use Rattle.fj_groebner.specs.Division.{DegreeAtMost, Division, cancel_lead, move_lead}
 use Rattle.fj_poly.specs.Slots.{IsBelow, without_lead}
 use Rattle.fj_poly.specs.Terms.{AreTerms}
 use Rattle.fj_poly.proofs.Changed.{terms_from_each}
@@ -25,6 +25,15 @@ use Rattle.fj_poly.proofs.Leads.{lead_coefficient-is, lead_exponents-is, popped,
 use Rattle.fj_poly.proofs.Polynomials.{polynomial_of, IsPolynomial-polynomial_of}
 use Rattle.fj_basis.specs.Quotients.{with_lead}
 use Rattle.fj_basis.proofs.Multiples.{product_term-negation}
+use Rattle.fj_basis.proofs.RowBounds.{sum-positive, term-positive}
+
+-- The state of these fields.
+abbrev pub state : Polynomial → List Polynomial → Polynomial → ℕ → Division
+state f qs r n = record { dividend = f; quotients = qs; remainder = r; sugar = n }
+
+-- Equal fields make equal states.
+pub state_same : {f g : Polynomial} {ps qs : List Polynomial} (r : Polynomial) {m n : ℕ} → f ≡ g → ps ≡ qs → m ≡ n → state f ps r m ≡ state g qs r n
+state_same r e h l = λ i. record { dividend = e i; quotients = h i; remainder = r; sugar = l i }
 
 cancelled : {A : Type 0} (R : CommutativeRing A) (t r q : A) → R.add r (R.neg q) ≡ subtract R (R.add t r) (R.add t q)
 cancelled R t r q = simp (subtract, ring_rules)
@@ -52,6 +61,33 @@ module _ {F : Field} (L : IsField F) {key : List ℕ → List ℕ} (O : IsMonomi
             rest = subst (IsPolynomial F) (sym own) (IsPolynomial-polynomial_of ts p.terms);
             below = subst (λ r. IsBelow key (lead_exponents key f) r) (sym own) (subst (λ b. IsBelow key b (polynomial_of ts)) (sym a) p.below);
           }
+
+  -- The rest is within the bounds of the whole.
+  pub rest-within : {f : Polynomial} → IsPolynomial F f → f ≢ empty → (n : ℕ) → DegreeAtMost n f → DegreeAtMost n (without_lead F key f)
+  unfolding without_lead difference
+  rest-within {f} P some n within = record { within = λ a p. within.within a (by a (sum-positive L f (negation F leading) a p)) }
+    where
+      leading : Polynomial
+      leading = term (lead_coefficient key f) (lead_exponents key f)
+
+      nothing : (a : List ℕ) → coefficient leading a ≡ 0 → coefficient (negation F leading) a ≡ 0
+      nothing a z = coefficient-negation L leading a ∙ ap F.neg z ∙ neg_zero_rank L
+
+      own : 0 < coefficient f (lead_exponents key f)
+      own = let positive = lead_coefficient-nonzero O P some in let same = coefficient-lead O P in omega (arith, positive, same)
+
+      by : (a : List ℕ) → (0 < coefficient f a) ⊎ (0 < coefficient (negation F leading) a) → 0 < coefficient f a
+      by a (inl p) = p
+      by a (inr p) =
+          ⊎_elim (λ z. let none = nothing a z in absurd (omega (arith, none, p)))
+          (λ q. subst (λ b. 0 < coefficient f b) (sym (term-positive (lead_coefficient key f) (lead_exponents key f) a q)) own)
+          (eq-zero-or-pos (coefficient leading a))
+
+  -- The negative of an element that isn't zero isn't zero.
+  pub negative-nonzero : (c : ℕ) → c < F.size → 0 < c → F.neg c ≢ 0
+  negative-nonzero c h p z =
+      let none : c ≡ 0 = sym (L.add_zero c h) ∙ ap (F.add c) (sym z) ∙ L.add_neg c h in
+      absurd (omega (arith, none, p))
 
   -- The lead put back.
   pub with_lead-taken : {s : Division} → IsPolynomial F s.dividend → (m : List ℕ) (c : ℕ) → lead key s.dividend ≡ Some (m, c) → (t : Division) → t ≡ record s { dividend = without_lead F key s.dividend }
@@ -136,12 +172,9 @@ module _ {F : Field} (L : IsField F) {key : List ℕ → List ℕ} (O : IsMonomi
           ∙ map_subtract L (R.add T r) (R.add T q) ∙ ap₂ (difference F) (map_add L T r) (map_add L T q ∙ sym whole)
 
       -- The multiple that cancels the lead is subtracted.
-      pub cancel_lead-taken : (k n : ℕ) → record {
-        dividend = sum F s.dividend (product F (term (F.neg e) a) rest);
-        quotients = set s.quotients k (sum F (get_or s.quotients k empty) (term e a));
-        remainder = s.remainder;
-        sugar = max s.sugar (total a + n);
-      } ≡ cancel_lead F key k (record { polynomial = g; sugar = n }) before
+      pub cancel_lead-taken : (k n : ℕ)
+          → state (sum F s.dividend (product F (term (F.neg e) a) rest)) (set s.quotients k (sum F (get_or s.quotients k empty) (term e a))) s.remainder (max s.sugar (total a + n))
+          ≡ cancel_lead F key k (record { polynomial = g; sugar = n }) before
       unfolding cancel_lead
       cancel_lead-taken k n =
           let monomial : a ≡ minus (lead_exponents key before.dividend) (lead_exponents key g) = ap (λ x. minus x (lead_exponents key g)) (sym own) in
