@@ -1,5 +1,5 @@
 -- A dividend whose leading term is taken out, and the steps of a division on what is left.
-use Rattle.std.proofs.Common.{◌≡◌, ◌≢◌, ◌⊎◌, inl, inr, ℕ, ◌+◌, ◌<◌, max, List, [], ◌∷◌, get_or, set, IsTrue, Some, refl, sym, ap, ap₂, ◌∙◌, subst, arith, ⊎_elim, eq-zero-or-pos}
+use Rattle.std.proofs.Common.{◌≡◌, ◌≢◌, ◌⊎◌, inl, inr, ℕ, ◌+◌, ◌<◌, max, List, [], ◌∷◌, get_or, set, IsTrue, Some, None, refl, sym, ap, ap₂, ◌∙◌, subst, arith, ⊎_elim, eq-zero-or-pos}
 use Rattle.std.specs.FinMap.{empty, get}
 use Rattle.fj_coeff.specs.Field.{Field, IsField}
 use Rattle.fj_algebra.specs.Ring.{CommutativeRing, subtract}
@@ -21,9 +21,10 @@ use Rattle.fj_groebner.specs.Division.{DegreeAtMost, Division, cancel_lead, move
 use Rattle.fj_poly.specs.Slots.{IsBelow, without_lead}
 use Rattle.fj_poly.specs.Terms.{AreTerms}
 use Rattle.fj_poly.proofs.Changed.{terms_from_each}
-use Rattle.fj_poly.proofs.Leads.{lead_coefficient-is, lead_exponents-is, popped, sum-less_first, without_lead-first}
+use Rattle.fj_poly.proofs.Leads.{lead_coefficient-is, lead_exponents-is, popped, sum-less_first, without_lead-empty, without_lead-first}
 use Rattle.fj_poly.proofs.Polynomials.{polynomial_of, IsPolynomial-polynomial_of}
 use Rattle.fj_basis.specs.Quotients.{with_lead}
+use Rattle.fj_basis.proofs.DivisionState.{lead-none}
 use Rattle.fj_basis.proofs.Multiples.{product_term-negation}
 use Rattle.fj_basis.proofs.RowBounds.{sum-positive, term-positive}
 
@@ -96,6 +97,13 @@ module _ {F : Field} (L : IsField F) {key : List ℕ → List ℕ} (O : IsMonomi
       let whole : sum F (term c m) (without_lead F key s.dividend) ≡ s.dividend =
       ap₂ (λ d b. sum F (term d b) (without_lead F key s.dividend)) (sym (lead_coefficient-is key s.dividend (m, c) is)) (sym (lead_exponents-is key s.dividend (m, c) is)) ∙ sym (split P n).value in
       ap (with_lead F c m) e ∙ (λ i. record { dividend = whole i; quotients = s.quotients; remainder = s.remainder; sugar = s.sugar })
+
+  -- Where there is no lead, nothing is taken out.
+  pub nothing-taken : {s t : Division} → IsPolynomial F s.dividend → lead key s.dividend ≡ None → t ≡ record s { dividend = without_lead F key s.dividend } → s ≡ t
+  nothing-taken {s} P none e =
+      let zero = lead-none O P none in
+      let same : s.dividend ≡ without_lead F key s.dividend = zero ∙ sym (without_lead-empty L O) ∙ ap (without_lead F key) (sym zero) in
+      state_same s.remainder same refl refl ∙ sym e
 
   module _ (s : Division) (P : IsPolynomial F s.dividend) {m : List ℕ} (M : IsExponents m) (c : ℕ) (small : c < F.size) (is : lead key (with_lead F c m s).dividend ≡ Some (m, c)) where
     abbrev before : Division

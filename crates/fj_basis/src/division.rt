@@ -101,7 +101,8 @@ impl<K: Coeff, O: Order> Division<K, O> {
             return Err(PolyFault::High);
         }
         let coefficient = ratio(c, d);
-        self.left.add_multiple_of_rest(coefficient.neg(), &monomial, g)?;
+        self.left
+            .add_multiple_of_rest(coefficient.neg(), &monomial, g)?;
         self.quotients[k].push_term(coefficient, &monomial)?;
         self.sugar = self.sugar.max(risen);
         Ok(())
@@ -201,8 +202,8 @@ pub(crate) fn divide_sugared<K: Coeff, O: Order, D: Divisor<K, O>>(
     ensures high { IsHighWhere (IsHighDivision K.field O.key (map D.sugared list.now) (record { polynomial = h.now; sugar = sugar })) result }
 {
     let mut division = Division::start(alloc, h, sugar, list.len())?;
-    while let Some((c, m)) = division.take_lead()? {
-        division.step(c, &m, list)?;
+    while let Some(lead) = division.take_lead()? {
+        division.step(lead.0, &lead.1, list)?;
     }
     Ok(division)
 }
