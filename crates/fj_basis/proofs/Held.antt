@@ -1,12 +1,12 @@
 -- A dividend whose leading term is taken out, and the steps of a division on what is left.
 use Rattle.std.proofs.Common.{◌≡◌, ◌≢◌, ◌⊎◌, inl, inr, ℕ, ◌+◌, ◌<◌, max, List, [], ◌∷◌, get_or, set, IsTrue, Some, None, refl, sym, ap, ap₂, ◌∙◌, subst, arith, ⊎_elim, eq-zero-or-pos}
-use Rattle.std.specs.FinMap.{empty, get}
+use Rattle.std.specs.FinMap.{empty}
 use Rattle.fj_coeff.specs.Field.{Field, IsField}
 use Rattle.fj_algebra.specs.Ring.{CommutativeRing, subtract}
 use Rattle.fj_algebra.proofs.Ring.{ring_laws as ring_rules}
-use Rattle.fj_theory.specs.Exponents.{IsExponents, total, plus, minus, divides}
+use Rattle.fj_theory.specs.Exponents.{IsExponents, total, minus, divides}
 use Rattle.fj_theory.specs.Lead.{lead_coefficient, lead_exponents}
-use Rattle.fj_theory.specs.MonomialOrder.{IsMonomialOrder, compare_by}
+use Rattle.fj_theory.specs.MonomialOrder.{IsMonomialOrder}
 use Rattle.fj_theory.specs.Polynomial.{Polynomial, IsPolynomial, IsFalling, coefficient, difference, lead, negation, product, sum, term, terms_falling}
 use Rattle.fj_theory.proofs.Exponents.{IsExponents-minus, plus-minus, plus_comm}
 use Rattle.fj_theory.proofs.Field.{zero_below}

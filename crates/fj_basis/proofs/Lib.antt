@@ -1,4 +1,3 @@
-pub mod Left
 pub mod Multiples
 pub mod DivisionState
 pub mod Faults

@@ -1,4 +1,4 @@
-use Rattle.std.proofs.Common.{◌≡◌, ◌≢◌, ℕ, ◌+◌, ◌<◌, max, List, IsTrue, length, get_or, set, All, Greater, ap, ap₂, ◌∙◌, sym, subst, arith}
+use Rattle.std.proofs.Common.{◌≡◌, ℕ, ◌+◌, ◌<◌, max, List, IsTrue, length, get_or, set, All, Greater, ap, ap₂, ◌∙◌, sym, subst, arith}
 use Rattle.std.specs.FinMap.{empty}
 use Rattle.std.proofs.lemmas.List.{get_or_default}
 use Rattle.fj_theory.specs.Exponents.{IsExponents, divides, minus, total}

@@ -1,4 +1,4 @@
-use Rattle.std.proofs.Common.{◌≡◌, ap, ◌∙◌, subst, arith}
+use Rattle.std.proofs.Common.{ap, ◌∙◌, subst, arith}
 use Rattle.std.proofs.lemmas.Result.{on_ok_weaker}
 use Rattle.fj_theory.specs.Exponents.{IsExponents}
 use Rattle.fj_theory.specs.Polynomial.{IsPolynomial, lead}
