@@ -1,4 +1,3 @@
-pub mod Left
 pub mod Multiples
 pub mod DivisionState
 pub mod Faults
@@ -34,3 +33,4 @@ pub mod Turning
 pub mod Starting
 pub mod Copies
 pub mod Dividing
+pub mod Held

@@ -1,22 +1,16 @@
--- Multiples of a polynomial by a term: their signs, their terms above the lead, and their degree.
-use Rattle.std.proofs.Common.{◌≡◌, ◌≢◌, ℕ, ◌+◌, ◌^◌, ◌<◌, ◌≤◌, Bool, true, false, cond, List, Option, Some, None, Less, refl, sym, ap, ap₂, ◌∙◌, arith, ⊎_elim, eq-zero-or-pos}
-use Rattle.std.specs.FinMap.{empty}
+-- Multiples of a polynomial by a term: their signs and their degree.
+use Rattle.std.proofs.Common.{◌≡◌, ℕ, ◌+◌, ◌^◌, ◌<◌, ◌≤◌, Bool, true, false, cond, List, Option, Some, None, refl, sym, ap, ap₂, ◌∙◌, arith, ⊎_elim, eq-zero-or-pos}
 use Rattle.fj_coeff.specs.Field.{Field, IsField}
 use Rattle.fj_algebra.proofs.Ring.{neg_mul, mul_zero}
-use Rattle.fj_theory.specs.Exponents.{IsExponents, total, plus, minus, divides}
-use Rattle.fj_theory.specs.MonomialOrder.{IsMonomialOrder, compare_by}
-use Rattle.fj_theory.specs.Polynomial.{Polynomial, IsPolynomial, coefficient, degree, term, negation, product}
-use Rattle.fj_theory.specs.Lead.{lead_exponents}
+use Rattle.fj_theory.specs.Exponents.{IsExponents, total}
+use Rattle.fj_theory.specs.Polynomial.{Polynomial, IsPolynomial, degree, term, negation, product}
 use Rattle.fj_groebner.specs.Division.{DegreeAtMost}
-use Rattle.fj_theory.proofs.Exponents.{IsExponents-minus, plus-minus}
 use Rattle.fj_theory.proofs.Field.{element, field_ring, rank_element, rank_mul, rank_zero, zero_below}
-use Rattle.fj_theory.proofs.MonomialOrder.{compare_by-plus_left}
 use Rattle.fj_theory.proofs.Polynomial.{polynomial_equal, coefficient-term, IsPolynomial-term, IsPolynomial-empty}
 use Rattle.fj_theory.proofs.PolynomialRing.{polynomial_ring, map_mul, map_neg, coefficient-negation, IsPolynomial-negation, neg_zero_rank, product_empty, product_comm}
 use Rattle.fj_theory.proofs.IdealBridge.{over}
 use Rattle.fj_theory.proofs.FormalSum.{same}
-use Rattle.fj_theory.proofs.Lead.{above_lead, IsExponents-lead}
-use Rattle.fj_theory.proofs.Monomial.{coefficient-product_term, term_zero}
+use Rattle.fj_theory.proofs.Monomial.{term_zero}
 use Rattle.fj_theory.proofs.Degree.{degree-product, degree-term, degree_attained, empty_from_degree}
 use Rattle.fj_poly.specs.Limit.{IsHigh}
 use Rattle.fj_poly.proofs.Limits.{low_degree, low_empty}
@@ -57,18 +51,6 @@ module _ {F : Field} (L : IsField F) where
     -- A multiple by the opposite coefficient.
     pub product_term-negation : product F (term (F.neg c) a) g ≡ negation F (product F (term c a) g)
     product_term-negation = ap (λ f. product F f g) (negation-term c h A) ∙ product-negation (IsPolynomial-term c h A) Q
-
-    -- No term of a multiple is above the lead.
-    pub product_term-above : {key : List ℕ → List ℕ} (O : IsMonomialOrder key) → g ≢ empty → (u : List ℕ) → IsExponents u
-        → compare_by key (plus a (lead_exponents key g)) u ≡ Less → coefficient (product F (term c a) g) u ≡ 0
-    product_term-above {key} O some u U less = coefficient-product_term L Q c h A U ∙ by (divides a u) refl
-      where
-        by : (t : Bool) → divides a u ≡ t → cond t (F.mul c (coefficient g (minus u a))) 0 ≡ 0
-        by false d = refl
-        by true d =
-            let rest = IsExponents-minus U A in
-            let below = sym (compare_by-plus_left O (IsExponents-lead O Q) rest A) ∙ ap (compare_by key (plus a (lead_exponents key g))) (plus-minus A U d) ∙ less in
-            ap (F.mul c) (above_lead O Q some (minus u a) below) ∙ mul_zero_rank c h
 
     -- Within a bound no term of a multiple is high.
     pub product_term-low : (n : ℕ) → DegreeAtMost n g → total a + n ≤ 2 ^ 40 → IsHigh (product F (term c a) g) → ⊥

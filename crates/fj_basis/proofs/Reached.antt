@@ -48,6 +48,8 @@ module _ {F : Field} (L : IsField F) {key : List ℕ → List ℕ} (O : IsMonomi
       above = λ n k l a p.
           let none = ap (λ f. coefficient f a) (get_or-replicate (length G) k empty_map empty (omega (arith, l, length-replicate (length G) (empty_map)))) ∙ coefficient-empty a in
           absurd (omega (arith, none, p));
+      remainder = IsPolynomial-empty F;
+      remainder_above = λ n a p. let none = coefficient-empty a in absurd (omega (arith, none, p));
     });
     low = let n = ap (λ x. x.sugar) e in omega (arith, n, low);
   }

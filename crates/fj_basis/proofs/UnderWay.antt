@@ -47,6 +47,10 @@ module _ {F : Field} (L : IsField F) {key : List ℕ → List ℕ} (O : IsMonomi
     unfolding member_at
     member-polynomial k l = All-map_back (IsPolynomial F) (λ g. g.polynomial) G A.each k (record { polynomial = empty; sugar = 0 }) l
 
+    -- The terms of the remainder are above the lead of the dividend.
+    pub remainder-below : {s : Division} → IsUnderWay F key G s → s.dividend ≢ empty → All (λ t. compare_by key t.0 (lead_exponents key s.dividend) ≡ Greater) (terms_falling key s.remainder)
+    remainder-below u some i e m = u.remainder_above some _ (terms-positive u.remainder i e m)
+
     -- The terms of a quotient are above the next factor of its member.
     pub factor-below : {s : Division} → IsUnderWay F key G s → s.dividend ≢ empty → (k : ℕ) → k < length s.quotients → IsPolynomial F (member_at G k).polynomial
         → IsTrue (divides (lead_exponents key (member_at G k).polynomial) (lead_exponents key s.dividend))
@@ -68,8 +72,32 @@ module _ {F : Field} (L : IsField F) {key : List ℕ → List ℕ} (O : IsMonomi
       lower : t.dividend ≢ empty → (x : List ℕ) → compare_by key x (lead_exponents key s.dividend) ≡ Greater → compare_by key x (lead_exponents key t.dividend) ≡ Greater
       lower n x g = above_trans key x _ _ g (falls n)
 
-      kept : t.quotients ≡ s.quotients → IsUnderWay F key G t
-      kept e = record {
+      -- The remainder, where it stays as it is.
+      remains : t.remainder ≡ s.remainder → IsPolynomial F t.remainder
+      remains e = subst (IsPolynomial F) (sym e) u.remainder
+
+      remains_above : t.remainder ≡ s.remainder → t.dividend ≢ empty → (a : List ℕ) → 0 < coefficient t.remainder a → compare_by key a (lead_exponents key t.dividend) ≡ Greater
+      remains_above e n a p = lower n a (u.remainder_above h.nonzero a (subst (λ f. 0 < coefficient f a) e p))
+
+      -- And where it gets the leading term.
+      IsPolynomial-leading : IsPolynomial F (term (lead_coefficient key s.dividend) (lead_exponents key s.dividend))
+      IsPolynomial-leading = IsPolynomial-term (lead_coefficient key s.dividend) (lead_coefficient-below O u.dividend (zero_below L)) (IsExponents-lead O u.dividend)
+
+      grows : t.remainder ≡ sum F s.remainder (term (lead_coefficient key s.dividend) (lead_exponents key s.dividend)) → IsPolynomial F t.remainder
+      grows e = subst (IsPolynomial F) (sym e) (IsPolynomial-sum L u.remainder IsPolynomial-leading)
+
+      grows_above : t.remainder ≡ sum F s.remainder (term (lead_coefficient key s.dividend) (lead_exponents key s.dividend)) → t.dividend ≢ empty → (a : List ℕ) → 0 < coefficient t.remainder a
+          → compare_by key a (lead_exponents key t.dividend) ≡ Greater
+      grows_above e n a p = by (sum-positive L s.remainder (term (lead_coefficient key s.dividend) (lead_exponents key s.dividend)) a (subst (λ f. 0 < coefficient f a) e p))
+        where
+          by : (0 < coefficient s.remainder a) ⊎ (0 < coefficient (term (lead_coefficient key s.dividend) (lead_exponents key s.dividend)) a) → compare_by key a (lead_exponents key t.dividend) ≡ Greater
+          by (inl q) = lower n a (u.remainder_above h.nonzero a q)
+          by (inr q) = subst (λ x. compare_by key x (lead_exponents key t.dividend) ≡ Greater) (sym (term-positive (lead_coefficient key s.dividend) (lead_exponents key s.dividend) a q)) (falls n)
+
+      kept : t.quotients ≡ s.quotients → t.remainder ≡ sum F s.remainder (term (lead_coefficient key s.dividend) (lead_exponents key s.dividend)) → IsUnderWay F key G t
+      kept e r = record {
+        remainder = grows r;
+        remainder_above = grows_above r;
         dividend = IsDivisionStep-polynomial O L G A nonzero u.dividend h;
         quotients = subst (ArePolynomials F) (sym e) u.quotients;
         long = ap length e ∙ u.long;
@@ -113,8 +141,10 @@ module _ {F : Field} (L : IsField F) {key : List ℕ → List ℕ} (O : IsMonomi
                 subst (λ x. compare_by key x (lead_exponents key t.dividend) ≡ Greater)
                 (sym (ap (λ x. plus x (lead_exponents key (member_at G k).polynomial)) (term-positive c a b p) ∙ plus_comm a (lead_exponents key (member_at G k).polynomial) ∙ plus-minus B C d)) (falls n)
 
-        cancelled : t.quotients ≡ set s.quotients k q → IsUnderWay F key G t
-        cancelled e = record {
+        cancelled : t.quotients ≡ set s.quotients k q → t.remainder ≡ s.remainder → IsUnderWay F key G t
+        cancelled e r = record {
+          remainder = remains r;
+          remainder_above = remains_above r;
           dividend = IsDivisionStep-polynomial O L G A nonzero u.dividend h;
           quotients = record { each = λ j z m. by_place j z (subst (λ qs. j < length qs) e m) };
           long = ap length e ∙ length-set s.quotients k q ∙ u.long;
@@ -146,7 +176,7 @@ module _ {F : Field} (L : IsField F) {key : List ℕ → List ℕ} (O : IsMonomi
       IsUnderWay-step = go (first_divisor key G (lead_exponents key s.dividend)) refl h.next
         where
           go : (o : Option ℕ) → first_divisor key G (lead_exponents key s.dividend) ≡ o → t ≡ step_by F key G o s → IsUnderWay F key G t
-          go None f e = kept (ap (λ x. x.quotients) e)
+          go None f e = kept (ap (λ x. x.quotients) e) (ap (λ x. x.remainder) e)
           go (Some k) f e =
               let found = first_divisor-Some key G (lead_exponents key s.dividend) k f in
-              cancelled k found.0 found.1 (member-nonzero k found.0) (member-polynomial k found.0) (ap (λ x. x.quotients) e)
+              cancelled k found.0 found.1 (member-nonzero k found.0) (member-polynomial k found.0) (ap (λ x. x.quotients) e) (ap (λ x. x.remainder) e)

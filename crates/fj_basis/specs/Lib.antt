@@ -1,5 +1,4 @@
 pub mod DivisionCode
-pub mod Left
 pub mod Quotients
 pub mod Members
 pub mod History

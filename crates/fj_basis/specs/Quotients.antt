@@ -5,7 +5,7 @@ use Rattle.std.specs.declared.cmp.Ordering.TheVariants.{Greater}
 use Rattle.fj_coeff.specs.Field.{Field}
 use Rattle.fj_theory.specs.Exponents.{plus}
 use Rattle.fj_theory.specs.MonomialOrder.{compare_by}
-use Rattle.fj_theory.specs.Polynomial.{Polynomial, IsPolynomial, coefficient}
+use Rattle.fj_theory.specs.Polynomial.{Polynomial, IsPolynomial, coefficient, sum, term}
 use Rattle.fj_theory.specs.Ideal.{ArePolynomials}
 use Rattle.fj_theory.specs.Lead.{lead_exponents}
 use Rattle.fj_groebner.specs.Division.{Sugared, Division, member_at, IsLowDivision}
@@ -17,11 +17,17 @@ pub record IsDivided (F : Field) (key : List ℕ → List ℕ) (G : List Sugared
   pub quotients_are : last.quotients ≡ quotients
   pub remainder_is : last.remainder ≡ remainder
 
+-- The state with a leading term put back into its dividend.
+abbrev pub with_lead : Field → ℕ → List ℕ → Division → Division
+with_lead F c m s = record s { dividend = sum F (term c m) s.dividend }
+
 -- A division under way: its dividend and its quotients are polynomials, one quotient for each member, and the multiples that
--- are subtracted so far have leads above the dividend's.
+-- are subtracted so far have leads above the dividend's, as have the terms of the remainder.
 pub record IsUnderWay (F : Field) (key : List ℕ → List ℕ) (G : List Sugared) (s : Division) : Type 0 where
   pub dividend : IsPolynomial F s.dividend
   pub quotients : ArePolynomials F s.quotients
   pub long : length s.quotients ≡ length G
   pub above : s.dividend ≢ empty → (k : ℕ) → k < length s.quotients → (a : List ℕ) → 0 < coefficient (slice_index_or s.quotients k empty) a
       → compare_by key (plus a (lead_exponents key (member_at G k).polynomial)) (lead_exponents key s.dividend) ≡ Greater
+  pub remainder : IsPolynomial F s.remainder
+  pub remainder_above : s.dividend ≢ empty → (a : List ℕ) → 0 < coefficient s.remainder a → compare_by key a (lead_exponents key s.dividend) ≡ Greater

@@ -11,42 +11,39 @@ ghost use Rattle.fj_theory.specs.Lead.{lead_exponents};
 ghost use Rattle.fj_groebner.specs.Division.{AreWithinSugars, DegreeAtMost, IsDivisionStep, IsHighDivision, IsLowDivision, SubtractsHigh, cancel_lead, degree_limit, first_divisor, move_lead, polynomials_of, step_by};
 ghost use Rattle.fj_groebner.specs.Run.{given};
 ghost use Rattle.fj_poly.specs.Limit.{IsHighWhere};
-ghost use Rattle.fj_basis.specs.Quotients.{IsDivided, IsUnderWay};
+ghost use Rattle.fj_basis.specs.Quotients.{IsDivided, IsUnderWay, with_lead};
+ghost use Rattle.fj_poly.specs.Slots.{without_lead};
 
 use crate::cofactors::zero_row;
 use crate::divisor::Divisor;
 use crate::handed::{look_over, sugar_of};
 use fj_coeff::Coeff;
 use fj_mono::{DEGREE_LIMIT, Mono, Order};
-use fj_poly::{Poly, PolyFault};
+use fj_poly::{Buckets, Poly, PolyFault};
 use std::alloc::{AllocError, Global};
 use std::marker::Model;
 
-/// A division under way. What is still to be divided and the remainder are kept as one polynomial, their sum: its first
-/// `moved` terms are the remainder's.
+/// A division under way: what is still to be divided, in buckets, the quotients, the remainder and the dividend's sugar.
 #[derive(Drop)]
 pub(crate) struct Division<K: Coeff, O: Order> {
-    left: Poly<K, O>,
-    moved: usize,
+    left: Buckets<K, O>,
     quotients: Vec<Poly<K, O>>,
+    remainder: Poly<K, O>,
     sugar: u64,
 }
 
 impl<K: Coeff, O: Order> Model for Division<K, O> {
-    ghost use Rattle.std.specs.Prelude.{◌≤◌};
-    ghost use Rattle.std.specs.FinMap.{len};
     ghost use Rattle.fj_groebner.specs.Division as definition;
     ghost use Rattle.fj_theory.specs.Polynomial.{IsPolynomial};
     ghost use Rattle.fj_basis.specs.DivisionCode.{division_code};
-    ghost use Rattle.fj_basis.specs.Left.{front, back};
 
     ghost Value = { definition.Division };
 
     ghost coded = { division_code };
 
-    ghost view = { λ d. record { dividend = back O.key d.moved d.left; quotients = d.quotients.items; remainder = front O.key d.moved d.left; sugar = d.sugar } };
+    ghost view = { λ d. record { dividend = d.left; quotients = d.quotients.items; remainder = d.remainder; sugar = d.sugar } };
 
-    ghost invariant = { λ d. (d.moved ≤ len d.left) × IsPolynomial K.field d.left };
+    ghost invariant = { λ d. IsPolynomial K.field d.left };
 }
 
 impl<K: Coeff, O: Order> Division<K, O> {
@@ -60,43 +57,41 @@ impl<K: Coeff, O: Order> Division<K, O> {
         ensures value { IfOk result (λ d. d ≡ record { dividend = h.now; quotients = replicate count empty; remainder = empty; sugar = sugar }) }
         ensures polynomial { OnOk result (IsPolynomial K.field h.now) }
     {
+        let mut left = Buckets::new(alloc);
+        left.add(h.copy(alloc)?)?;
         Ok(Division {
-            left: h.copy(alloc)?,
-            moved: 0,
+            left,
             quotients: zero_row(alloc, count)?,
+            remainder: Poly::zero(alloc),
             sugar,
         })
     }
 
-    // The lead of the dividend.
-    fn lead(&self) -> Option<(K, Mono)>
-        ensures lead { option_map (λ found. (found.1.exponents, K.rank found.0)) result ≡ lead O.key self.now.dividend }
-        ensures polynomial { IsPolynomial K.field self.now.dividend }
+    // Takes the lead of the dividend out.
+    fn take_lead(&mut self) -> Result<Option<(K, Mono)>, AllocError>
+        ensures lead { IfOk result (λ r. option_map (λ found. (found.1.exponents, K.rank found.0)) r ≡ lead O.key self.old.dividend) }
+        ensures rest { OnOk result (self.new ≡ record self.old { dividend = without_lead K.field O.key self.old.dividend }) }
+        ensures polynomial { IsPolynomial K.field self.old.dividend }
     {
-        if self.moved < self.left.len() {
-            Some(self.left.at(self.moved))
-        } else {
-            None
-        }
+        self.left.take_lead()
     }
 
-    // The multiple of g, the member at place k, that cancels the dividend's lead c*m is subtracted.
+    // The multiple of g, the member at place k, that cancels the lead c*m, taken out of the dividend before, is subtracted.
     fn cancel_lead(
         &mut self,
-        alloc: Global,
         c: K,
         m: &Mono,
         k: usize,
         g: &Poly<K, O>,
         sugar: u64,
     ) -> Result<(), PolyFault>
-        requires lead { lead O.key self.old.dividend ≡ Some (m.now.exponents, K.rank c) }
+        requires lead { lead O.key (with_lead K.field (K.rank c) m.now.exponents self.old).dividend ≡ Some (m.now.exponents, K.rank c) }
         requires nonzero { g.now ≢ empty }
         requires divisor { IsTrue (divides (lead_exponents O.key g.now) m.now.exponents) }
         requires place { k < length self.old.quotients }
         requires within { DegreeAtMost sugar g.now }
         requires above { All (λ t. compare_by O.key t.0 (minus m.now.exponents (lead_exponents O.key g.now)) ≡ Greater) (terms_falling O.key (slice_index_or self.old.quotients k empty)) }
-        ensures value { OnOk result (self.new ≡ cancel_lead K.field O.key k (record { polynomial = g.now; sugar = sugar }) self.old) }
+        ensures value { OnOk result (self.new ≡ cancel_lead K.field O.key k (record { polynomial = g.now; sugar = sugar }) (with_lead K.field (K.rank c) m.now.exponents self.old)) }
         ensures high { IsHighWhere (degree_limit < total (minus m.now.exponents (lead_exponents O.key g.now)) + sugar) result }
     {
         let (d, n) = g.lead().unwrap();
@@ -105,47 +100,41 @@ impl<K: Coeff, O: Order> Division<K, O> {
         if risen > DEGREE_LIMIT {
             return Err(PolyFault::High);
         }
-        let coefficient = c.mul(d.inv());
-        let multiple = Poly::term(alloc, coefficient.neg(), &monomial)?.mul(alloc, g)?;
-        self.left = self.left.add(alloc, &multiple)?;
+        let coefficient = ratio(c, d);
+        self.left
+            .add_multiple_of_rest(coefficient.neg(), &monomial, g)?;
         self.quotients[k].push_term(coefficient, &monomial)?;
         self.sugar = self.sugar.max(risen);
         Ok(())
     }
 
-    // The leading term of the dividend moves to the remainder.
-    fn move_lead(&mut self)
-        requires { self.old.dividend ≢ empty }
-        ensures { self.new ≡ move_lead K.field O.key self.old }
+    // The lead c*m, taken out of the dividend before, moves to the remainder.
+    fn move_lead(&mut self, c: K, m: &Mono) -> Result<(), AllocError>
+        requires lead { lead O.key (with_lead K.field (K.rank c) m.now.exponents self.old).dividend ≡ Some (m.now.exponents, K.rank c) }
+        requires above { All (λ t. compare_by O.key t.0 m.now.exponents ≡ Greater) (terms_falling O.key self.old.remainder) }
+        ensures { OnOk result (self.new ≡ move_lead K.field O.key (with_lead K.field (K.rank c) m.now.exponents self.old)) }
     {
-        prove!(self.moved < self.left.len());
-        self.moved += 1;
+        self.remainder.push_term(c, m)
     }
 
-    // One step, the dividend's lead being c*m.
-    fn step<D: Divisor<K, O>>(
-        &mut self,
-        alloc: Global,
-        c: K,
-        m: &Mono,
-        list: &[D],
-    ) -> Result<(), PolyFault>
-        requires lead { lead O.key self.old.dividend ≡ Some (m.now.exponents, K.rank c) }
+    // One step, the dividend's lead c*m being taken out before.
+    fn step<D: Divisor<K, O>>(&mut self, c: K, m: &Mono, list: &[D]) -> Result<(), PolyFault>
+        requires lead { lead O.key (with_lead K.field (K.rank c) m.now.exponents self.old).dividend ≡ Some (m.now.exponents, K.rank c) }
         requires polynomials { ArePolynomials K.field (polynomials_of (map D.sugared list.now)) }
         requires nonzero { All (λ f. f ≢ empty) (polynomials_of (map D.sugared list.now)) }
         requires within { AreWithinSugars (map D.sugared list.now) }
-        requires state { IsUnderWay K.field O.key (map D.sugared list.now) self.old }
+        requires state { IsUnderWay K.field O.key (map D.sugared list.now) (with_lead K.field (K.rank c) m.now.exponents self.old) }
         requires low { self.old.sugar ≤ degree_limit }
-        ensures step { OnOk result (IsDivisionStep K.field O.key (map D.sugared list.now) self.old self.new) }
-        ensures high { IsHighWhere (degree_limit < (step_by K.field O.key (map D.sugared list.now) (first_divisor O.key (map D.sugared list.now) m.now.exponents) self.old).sugar) result }
+        ensures step { OnOk result (IsDivisionStep K.field O.key (map D.sugared list.now) (with_lead K.field (K.rank c) m.now.exponents self.old) self.new) }
+        ensures high { IsHighWhere (degree_limit < (step_by K.field O.key (map D.sugared list.now) (first_divisor O.key (map D.sugared list.now) m.now.exponents) (with_lead K.field (K.rank c) m.now.exponents self.old)).sugar) result }
     {
         match first_divisor(list, m) {
             Some(k) => {
                 let g = &list[k];
-                self.cancel_lead(alloc, c, m, k, g.polynomial(), g.sugar())
+                self.cancel_lead(c, m, k, g.polynomial(), g.sugar())
             }
             None => {
-                self.move_lead();
+                self.move_lead(c, m)?;
                 Ok(())
             }
         }
@@ -158,23 +147,29 @@ impl<K: Coeff, O: Order> Division<K, O> {
         &self.quotients
     }
 
-    /// The remainder, once nothing is left to be divided.
+    /// The remainder.
     pub(crate) fn remainder(&self) -> &Poly<K, O>
-        requires { self.now.dividend ≡ empty }
         ensures { result.now ≡ self.now.remainder }
     {
-        &self.left
+        &self.remainder
     }
 
-    /// The quotients, the remainder and its sugar, once nothing is left to be divided.
+    /// The quotients, the remainder and its sugar.
     pub(crate) fn into_parts(self) -> (Vec<Poly<K, O>>, Poly<K, O>, u64)
-        requires { self.dividend ≡ empty }
         ensures quotients { result.0.items ≡ self.quotients }
         ensures remainder { result.1 ≡ self.remainder }
         ensures sugar { result.2 ≡ self.sugar }
     {
-        (self.quotients, self.left, self.sugar)
+        (self.quotients, self.remainder, self.sugar)
     }
+}
+
+// The quotient of two coefficients: members of a run are monic, and no inverse is computed for them.
+fn ratio<K: Coeff>(c: K, d: K) -> K
+    requires { K.rank d ≢ 0 }
+    ensures { K.rank result ≡ K.field.mul (K.rank c) (K.field.inverse (K.rank d)) }
+{
+    if d == K::one() { c } else { c.mul(d.inv()) }
 }
 
 // The place of the first member whose lead divides the monomial.
@@ -207,8 +202,8 @@ pub(crate) fn divide_sugared<K: Coeff, O: Order, D: Divisor<K, O>>(
     ensures high { IsHighWhere (IsHighDivision K.field O.key (map D.sugared list.now) (record { polynomial = h.now; sugar = sugar })) result }
 {
     let mut division = Division::start(alloc, h, sugar, list.len())?;
-    while let Some((c, m)) = division.lead() {
-        division.step(alloc, c, &m, list)?;
+    while let Some(lead) = division.take_lead()? {
+        division.step(lead.0, &lead.1, list)?;
     }
     Ok(division)
 }

@@ -1,12 +1,13 @@
-use Rattle.std.proofs.Common.{ap₂, ◌∙◌, sym, subst, arith}
-use Rattle.fj_theory.specs.Polynomial.{IsPolynomial}
-use Rattle.fj_basis.proofs.DivisionState.{seen, seen-start}
+use Rattle.std.proofs.Common.{ap₂, ◌∙◌}
+use Rattle.fj_theory.specs.Polynomial.{sum}
+use Rattle.fj_theory.proofs.Polynomial.{IsPolynomial-empty}
+use Rattle.fj_theory.proofs.PolynomialRing.{sum_comm, sum_empty}
 use Rattle.fj_basis.proofs.division.Division.start.Goals as goal
-
-pub invariant_of-result : goal.invariant_of-result
-invariant_of-result g c = (omega arith, subst (IsPolynomial g.K.Coeff.field) (sym c.in_ok-copy.ensures.value) c.in_ok-copy.ensures.polynomial)
 
 pub returns-clause-value : goal.returns-clause-value
 returns-clause-value g c =
-    ap₂ (λ f qs. seen g.O.Order.key f 0 qs c.args.sugar) c.in_ok-copy.ensures.value c.in_ok-zero_row.ensures
-    ∙ seen-start g.met.K.Coeff.lawful g.met.O.Order.monomial_order c.in_ok-copy.ensures.polynomial _ c.args.sugar
+    let F = g.K.Coeff.field in
+    let L = g.met.K.Coeff.lawful in
+    let P = c.in_ok-copy.ensures.polynomial in
+    let left = c.left-2.view_is ∙ c.in_ok-add.ensures.value ∙ ap₂ (sum F) c.new-left.ensures c.in_ok-copy.ensures.value ∙ sum_comm L (IsPolynomial-empty F) P ∙ sum_empty L P in
+    λ i. record { dividend = left i; quotients = c.in_ok-zero_row.ensures i; remainder = c.zero.ensures i; sugar = c.args.sugar }

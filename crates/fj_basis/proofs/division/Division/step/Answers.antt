@@ -11,7 +11,8 @@ use Rattle.fj_groebner.proofs.Division.{first_divisor-Some}
 use Rattle.fj_basis.proofs.DivisionState.{lead-parts, some-lead}
 use Rattle.fj_basis.proofs.DivisionSteps.{within_at, sugared_same, member_at-map, nonzero_list, step_by-cancel, step_by-move, sugar-cancel, sugar-move}
 use Rattle.fj_basis.proofs.Faults.{same_condition}
-use Rattle.fj_basis.proofs.UnderWay.{factor-below, member-polynomial, member-nonzero}
+use Rattle.fj_basis.proofs.UnderWay.{factor-below, remainder-below, member-polynomial, member-nonzero}
+use Rattle.fj_basis.specs.Quotients.{with_lead}
 use Rattle.fj_basis.proofs.division.Division.step.Goals as goal
 
 pub first_divisor-requires : goal.first_divisor-requires
@@ -72,10 +73,10 @@ cancel_lead-requires-clause-above g c =
     let found = first_divisor-Some key G c.args.m.now.exponents c.in-Some.k (sym c.in-Some.ensures) in
     let l : c.in-Some.k < length c.args.list.now = (let l = found.0 in omega (arith, l, length-map c.args.list.now g.D.Divisor.sugared)) in
     let member = member_at-map g.D.Divisor.sugared c.args.list.now c.in-Some.k c.index-list-k.result l c.index-list-k.is in
-    let lead_is = (lead-parts key c.args.self.now.dividend _ c.requires.lead).0 in
-    let place : c.in-Some.k < length c.args.self.now.quotients = (let l = found.0 in let long = c.requires.state.long in omega (arith, l, long)) in
-    let quotient = get_or c.args.self.now.quotients c.in-Some.k empty in
-    subst₂ (λ f m. All (λ t. compare_by key t.0 (minus m (lead_exponents key f)) ≡ Greater) (terms_falling key (get_or c.args.self.now.quotients c.in-Some.k empty)))
+    let lead_is = (lead-parts key (with_lead g.K.Coeff.field (g.K.Coeff.rank c.args.c) c.args.m.now.exponents c.args.self.now).dividend _ c.requires.lead).0 in
+    let place : c.in-Some.k < length (with_lead g.K.Coeff.field (g.K.Coeff.rank c.args.c) c.args.m.now.exponents c.args.self.now).quotients = (let l = found.0 in let long = c.requires.state.long in omega (arith, l, long)) in
+    let quotient = get_or (with_lead g.K.Coeff.field (g.K.Coeff.rank c.args.c) c.args.m.now.exponents c.args.self.now).quotients c.in-Some.k empty in
+    subst₂ (λ f m. All (λ t. compare_by key t.0 (minus m (lead_exponents key f)) ≡ Greater) (terms_falling key (get_or (with_lead g.K.Coeff.field (g.K.Coeff.rank c.args.c) c.args.m.now.exponents c.args.self.now).quotients c.in-Some.k empty)))
     (ap (λ x. x.polynomial) member ∙ sym c.polynomial.ensures) lead_is
     (factor-below L O G c.requires.polynomials c.requires.nonzero c.requires.state (some-lead g.K.Coeff.field O c.requires.lead) c.in-Some.k place
     (member-polynomial L O G c.requires.polynomials c.requires.nonzero c.in-Some.k found.0)
@@ -88,7 +89,7 @@ returns-in-Some-clause-step g c =
     let l : c.in-Some.k < length c.args.list.now = (let l = found.0 in omega (arith, l, length-map c.args.list.now g.D.Divisor.sugared)) in
     let member = member_at-map g.D.Divisor.sugared c.args.list.now c.in-Some.k c.index-list-k.result l c.index-list-k.is in
     on_ok_weaker c.cancel_lead.result
-    (λ e. step_by-cancel g.K.Coeff.field g.met.O.Order.monomial_order G c.args.self.now c.cancel_lead.new.self c.args.m.now.exponents _ c.requires.lead c.in-Some.k
+    (λ e. step_by-cancel g.K.Coeff.field g.met.O.Order.monomial_order G (with_lead g.K.Coeff.field (g.K.Coeff.rank c.args.c) c.args.m.now.exponents c.args.self.now) c.cancel_lead.new.self c.args.m.now.exponents _ c.requires.lead c.in-Some.k
     (record { polynomial = c.polynomial.result.now; sugar = c.sugar.result }) c.in-Some.ensures (member ∙ sugared_same (g.D.Divisor.sugared c.index-list-k.result) c.polynomial.ensures c.sugar.ensures) e)
     c.cancel_lead.ensures.value
 
@@ -98,21 +99,27 @@ returns-in-Some-clause-high g c =
     let found = first_divisor-Some g.O.Order.key G c.args.m.now.exponents c.in-Some.k (sym c.in-Some.ensures) in
     let l : c.in-Some.k < length c.args.list.now = (let l = found.0 in omega (arith, l, length-map c.args.list.now g.D.Divisor.sugared)) in
     let member = member_at-map g.D.Divisor.sugared c.args.list.now c.in-Some.k c.index-list-k.result l c.index-list-k.is in
-    let sugar = sugar-cancel g.K.Coeff.field g.met.O.Order.monomial_order G c.args.self.now c.args.self.now c.args.m.now.exponents _ c.requires.lead c.in-Some.k
+    let sugar = sugar-cancel g.K.Coeff.field g.met.O.Order.monomial_order G (with_lead g.K.Coeff.field (g.K.Coeff.rank c.args.c) c.args.m.now.exponents c.args.self.now) (with_lead g.K.Coeff.field (g.K.Coeff.rank c.args.c) c.args.m.now.exponents c.args.self.now) c.args.m.now.exponents _ c.requires.lead c.in-Some.k
     (record { polynomial = c.polynomial.result.now; sugar = c.sugar.result }) c.in-Some.ensures (member ∙ sugared_same (g.D.Divisor.sugared c.index-list-k.result) c.polynomial.ensures c.sugar.ensures) in
     let low = c.requires.low in
     same_condition c.cancel_lead.result (λ h. omega (arith, sugar, h)) (λ h. omega (arith, sugar, h, low)) c.cancel_lead.ensures.high
 
-pub move_lead-requires : goal.move_lead-requires
-move_lead-requires g c = some-lead g.K.Coeff.field g.met.O.Order.monomial_order c.requires.lead
+pub move_lead-requires-clause-above : goal.move_lead-requires-clause-above
+move_lead-requires-clause-above g c =
+    let key = g.O.Order.key in
+    let O = g.met.O.Order.monomial_order in
+    let own = (lead-parts key (with_lead g.K.Coeff.field (g.K.Coeff.rank c.args.c) c.args.m.now.exponents c.args.self.now).dividend _ c.requires.lead).0 in
+    subst (λ m. All (λ t. compare_by key t.0 m ≡ Greater) (terms_falling key c.args.self.now.remainder)) own
+    (remainder-below g.met.K.Coeff.lawful O (map g.D.Divisor.sugared c.args.list.now) c.requires.polynomials c.requires.nonzero c.requires.state (some-lead g.K.Coeff.field O c.requires.lead))
 
-pub returns-in-None-clause-step : goal.returns-in-None-clause-step
-returns-in-None-clause-step g c =
-    step_by-move g.K.Coeff.field g.met.O.Order.monomial_order (map g.D.Divisor.sugared c.args.list.now) c.args.self.now c.move_lead.new.self c.args.m.now.exponents _ c.requires.lead
-    c.in-None.ensures c.move_lead.ensures
+pub returns-in_ok-move_lead-in-None-clause-step : goal.returns-in_ok-move_lead-in-None-clause-step
+returns-in_ok-move_lead-in-None-clause-step g c =
+    step_by-move g.K.Coeff.field g.met.O.Order.monomial_order (map g.D.Divisor.sugared c.args.list.now) (with_lead g.K.Coeff.field (g.K.Coeff.rank c.args.c) c.args.m.now.exponents c.args.self.now)
+    c.move_lead.new.self c.args.m.now.exponents _ c.requires.lead c.in-None.ensures c.in_ok-move_lead-in-None.ensures
 
-pub returns-in-None-clause-high : goal.returns-in-None-clause-high
-returns-in-None-clause-high g c =
-    let sugar = sugar-move g.K.Coeff.field g.met.O.Order.monomial_order (map g.D.Divisor.sugared c.args.list.now) c.args.self.now c.args.self.now c.args.m.now.exponents _ c.requires.lead c.in-None.ensures in
+pub returns-in_ok-move_lead-in-None-clause-high : goal.returns-in_ok-move_lead-in-None-clause-high
+returns-in_ok-move_lead-in-None-clause-high g c =
+    let before = with_lead g.K.Coeff.field (g.K.Coeff.rank c.args.c) c.args.m.now.exponents c.args.self.now in
+    let sugar = sugar-move g.K.Coeff.field g.met.O.Order.monomial_order (map g.D.Divisor.sugared c.args.list.now) before before c.args.m.now.exponents _ c.requires.lead c.in-None.ensures in
     let low = c.requires.low in
     λ h. absurd (omega (arith, sugar, h, low))
