@@ -2,10 +2,16 @@
 use Rattle.std.specs.Prelude.{◌≡◌, ℕ, ◌+◌, ◌-◌, ◌*◌, ◌^◌, ◌<◌, ◌≤◌, false, List, [], ◌∷◌, length, map, min, slice_index_or, IsTrue, MatchOption, Option}
 use Rattle.fj_mono.specs.Monomial.{Monomial}
 use Rattle.fj_theory.specs.Exponents.{divides}
+use Rattle.fj_theory.specs.Lead.{lead_exponents}
+use Rattle.fj_groebner.specs.Division.{Sugared}
 
 -- The exponents of the monomials of a list.
 abbrev pub exponents_of : List Monomial → List (List ℕ)
 exponents_of ms = map (λ m. m.exponents) ms
+
+-- The exponents of the leads of the members of a list.
+abbrev pub lead_list : (List ℕ → List ℕ) → List Sugared → List (List ℕ)
+lead_list key G = map (λ g. lead_exponents key g.polynomial) G
 
 -- No member of the list from the one place to before the other divides the monomial.
 pub record NoneDivides (es : List (List ℕ)) (from to : ℕ) (a : List ℕ) : Type 0 where

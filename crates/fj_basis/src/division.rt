@@ -11,12 +11,14 @@ ghost use Rattle.fj_theory.specs.Lead.{lead_exponents};
 ghost use Rattle.fj_groebner.specs.Division.{AreWithinSugars, DegreeAtMost, IsDivisionStep, IsHighDivision, IsLowDivision, SubtractsHigh, cancel_lead, degree_limit, first_divisor, move_lead, polynomials_of, step_by};
 ghost use Rattle.fj_groebner.specs.Run.{given};
 ghost use Rattle.fj_poly.specs.Limit.{IsHighWhere};
+ghost use Rattle.fj_basis.specs.Leads.{exponents_of, lead_list};
 ghost use Rattle.fj_basis.specs.Quotients.{IsDivided, IsUnderWay, with_lead};
 ghost use Rattle.fj_poly.specs.Slots.{without_lead};
 
 use crate::cofactors::zero_row;
 use crate::divisor::Divisor;
 use crate::handed::{look_over, sugar_of};
+use crate::leads::Leads;
 use fj_coeff::Coeff;
 use fj_mono::{DEGREE_LIMIT, Mono, Order};
 use fj_poly::{Buckets, Poly, PolyFault};
@@ -118,17 +120,24 @@ impl<K: Coeff, O: Order> Division<K, O> {
     }
 
     // One step, the dividend's lead c*m being taken out before.
-    fn step<D: Divisor<K, O>>(&mut self, c: K, m: &Mono, list: &[D]) -> Result<(), PolyFault>
+    fn step<D: Divisor<K, O>>(
+        &mut self,
+        c: K,
+        m: &Mono,
+        list: &[D],
+        leads: &Leads,
+    ) -> Result<(), PolyFault>
         requires lead { lead O.key (with_lead K.field (K.rank c) m.now.exponents self.old).dividend ≡ Some (m.now.exponents, K.rank c) }
         requires polynomials { ArePolynomials K.field (polynomials_of (map D.sugared list.now)) }
         requires nonzero { All (λ f. f ≢ empty) (polynomials_of (map D.sugared list.now)) }
         requires within { AreWithinSugars (map D.sugared list.now) }
         requires state { IsUnderWay K.field O.key (map D.sugared list.now) (with_lead K.field (K.rank c) m.now.exponents self.old) }
         requires low { self.old.sugar ≤ degree_limit }
+        requires leads { exponents_of leads.now ≡ lead_list O.key (map D.sugared list.now) }
         ensures step { OnOk result (IsDivisionStep K.field O.key (map D.sugared list.now) (with_lead K.field (K.rank c) m.now.exponents self.old) self.new) }
         ensures high { IsHighWhere (degree_limit < (step_by K.field O.key (map D.sugared list.now) (first_divisor O.key (map D.sugared list.now) m.now.exponents) (with_lead K.field (K.rank c) m.now.exponents self.old)).sugar) result }
     {
-        match first_divisor(list, m) {
+        match leads.first(m) {
             Some(k) => {
                 let g = &list[k];
                 self.cancel_lead(c, m, k, g.polynomial(), g.sugar())
@@ -172,18 +181,20 @@ fn ratio<K: Coeff>(c: K, d: K) -> K
     if d == K::one() { c } else { c.mul(d.inv()) }
 }
 
-// The place of the first member whose lead divides the monomial.
-fn first_divisor<K: Coeff, O: Order, D: Divisor<K, O>>(list: &[D], m: &Mono) -> Option<usize>
+// The index of the leads of the members.
+fn leads_of<K: Coeff, O: Order, D: Divisor<K, O>>(
+    alloc: Global,
+    list: &[D],
+) -> Result<Leads, AllocError>
     requires { All (λ g. (D.sugared g).polynomial ≢ empty) list.now }
-    ensures { result ≡ first_divisor O.key (map D.sugared list.now) m.now.exponents }
+    ensures { IfOk result (λ l. exponents_of l ≡ lead_list O.key (map D.sugared list.now)) }
 {
-    for (k, g) in list.iter().enumerate() {
+    let mut leads = Leads::of(alloc, &[])?;
+    for g in list {
         let (_, lead) = g.polynomial().lead().unwrap();
-        if lead.divides(m) {
-            return Some(k);
-        }
+        leads.push(&lead)?;
     }
-    None
+    Ok(leads)
 }
 
 /// The division of h, with its sugar, by a list of polynomials with their sugars, none of them zero.
@@ -201,9 +212,10 @@ pub(crate) fn divide_sugared<K: Coeff, O: Order, D: Divisor<K, O>>(
     ensures value { IfOk result (IsLowDivision K.field O.key (map D.sugared list.now) (record { polynomial = h.now; sugar = sugar })) }
     ensures high { IsHighWhere (IsHighDivision K.field O.key (map D.sugared list.now) (record { polynomial = h.now; sugar = sugar })) result }
 {
+    let leads = leads_of(alloc, list)?;
     let mut division = Division::start(alloc, h, sugar, list.len())?;
     while let Some(lead) = division.take_lead()? {
-        division.step(lead.0, &lead.1, list)?;
+        division.step(lead.0, &lead.1, list, &leads)?;
     }
     Ok(division)
 }

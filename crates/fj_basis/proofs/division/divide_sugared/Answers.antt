@@ -6,10 +6,14 @@ use Rattle.fj_groebner.specs.Division.{IsDivisionStep, IsLowDivision, Sugared, d
 use Rattle.fj_groebner.proofs.Division.{IsLowDivision-IsHighDivision}
 use Rattle.fj_basis.specs.Quotients.{IsUnderWay, with_lead}
 use Rattle.fj_basis.proofs.DivisionState.{some-lead}
+use Rattle.fj_basis.proofs.DivisionSteps.{nonzero_list}
 use Rattle.fj_basis.proofs.Faults.{handed_on}
 use Rattle.fj_basis.proofs.Held.{nothing-taken, with_lead-taken}
 use Rattle.fj_basis.proofs.Reached.{Reached, start-is, Reached-start, Reached-step, Reached-end, Reached-high, Reached-falls, after-step, after-sugar, next-sugar}
 use Rattle.fj_basis.proofs.division.divide_sugared.Goals as goal
+
+pub leads_of-requires : goal.leads_of-requires
+leads_of-requires g c = nonzero_list g.D.Divisor.sugared c.args.list.now c.requires.nonzero
 
 pub loop-division-init : goal.loop-division-init
 loop-division-init g c = record {
