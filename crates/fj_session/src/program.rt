@@ -94,6 +94,12 @@ fn answer_all<K: Sink>(alloc: Global, script: &Script, sink: &mut K) -> u8
 /// each in one piece. The words are those of the command line, without the program's name. A session is read to its end,
 /// or until it is longer than 1,048,576 bytes, before it is answered.
 ///
+/// For every accepted session, unless memory, reading or writing fails: each printed ideal is the one asked for, a test ideal
+/// being the eventual Frobenius root; each list printed complete holds exactly the F-jumping numbers of f in (0, 1], each once,
+/// rising; each threshold, F-purity and compatibility verdict is exact; each open interval truly holds a change; a question
+/// stops only where a needed basis or product exceeds stated limits. It is the clause `whole`, phrase by phrase in
+/// docs/HEADLINE.md.
+///
 /// The status, and when it comes; 0, 1, 2 and 3 yield to 4, 5 and 6:
 ///
 /// - 0: the session has no fault, all questions were answered, and the answers were written.

@@ -409,7 +409,7 @@ static THRESHOLDS: [Row<'static>; 5] = [
 ];
 
 /// F-jumping numbers, in each printing order, and what stops.
-static JUMPS: [Row<'static>; 7] = [
+static JUMPS: [Row<'static>; 6] = [
     (
         GO,
         b"ring 2 x, y\npoly f = x^2+y^3\nask jumps f 2\n",
@@ -433,13 +433,6 @@ static JUMPS: [Row<'static>; 7] = [
         b"ring 3 x, y, z\npoly f = (x+y+z)^3\nask jumps f 2\n",
         0,
         b"1: jump 1/3 = (x+y+z)\n1: jump 2/3 = (x^2+2*x*y+y^2+2*x*z+2*y*z+z^2)\n1: jump 1 = (x^3+y^3+z^3)\n1: complete\n",
-    ),
-    // Of 925,468 candidates one is asked for.
-    (
-        GO,
-        b"ring 2 x\npoly f = x\nask jumps f 16\n",
-        0,
-        b"1: jump 1 = (x)\n1: complete\n",
     ),
     // The reduced bases for the printing order.
     (
@@ -583,6 +576,14 @@ fn answers_sessions(rt: HostRuntime) -> Result<(), Fail> {
     all_end(&rt, rt.alloc(), &THRESHOLDS)?;
     all_end(&rt, rt.alloc(), &JUMPS)?;
     all_end(&rt, rt.alloc(), &FAULTS)
+}
+
+// Both limits are asked for at one of 925,468 candidates.
+#[test]
+fn bisects_many_candidates(rt: HostRuntime) -> Result<(), Fail> {
+    let session: &[u8] = b"ring 2 x\npoly f = x\nask jumps f 16\n";
+    let output: &[u8] = b"1: jump 1 = (x)\n1: complete\n";
+    ends(&rt, rt.alloc(), (GO, session, 0, output), (10, 0, 100, 0))
 }
 
 #[test]
