@@ -1,5 +1,7 @@
 //! Polynomials, limits and exponents from rows.
+ghost use Rattle.std.specs.Prelude.{IsTrue};
 ghost use Rattle.fj_theory.specs.Fraction.{IsInUnitInterval};
+ghost use Rattle.fj_chain.specs.Admissible.{IsAdmissible};
 
 use fj_coeff::Coeff;
 use fj_elim::lacks_eighth;
@@ -41,6 +43,16 @@ fn poly<K: Coeff>(rt: &impl Abort, alloc: Global, terms: Terms) -> Result<GPoly<
     Ok(sum)
 }
 
+// Whether limits of the polynomial may be asked for.
+fn is_admissible<K: Coeff>(f: &GPoly<K>) -> bool
+    ensures { IsTrue result → IsAdmissible f.now }
+{
+    match f.degree() {
+        Some(degree) => 1 <= degree && degree <= 1000 && lacks_eighth(f),
+        None => false,
+    }
+}
+
 /// The limits of the polynomial with these terms.
 pub fn limits<K: Coeff>(
     rt: &impl Abort,
@@ -49,10 +61,7 @@ pub fn limits<K: Coeff>(
     pairs: u64,
 ) -> Result<Limits<K>, Fail> {
     let f = poly::<K>(rt, alloc, terms)?;
-    assert!(rt; lacks_eighth(&f));
-    let degree = f.degree().expect(rt, "a polynomial that isn't zero");
-    assert!(rt; 0 < degree);
-    assert!(rt; degree <= 1000);
+    assert!(rt; is_admissible(&f));
     Ok(Limits::of(alloc, f, pairs))
 }
 
