@@ -1,13 +1,12 @@
 -- Masks of monomials: where one monomial divides another, so do the ones of its mask stand in the other's.
-use Rattle.std.proofs.Common.{◌≡◌, ◌≢◌, ℕ, zero, suc, ◌+◌, ◌-◌, ◌*◌, ◌^◌, ◌%◌, ◌<◌, ◌≤◌, min, List, [], ◌∷◌, ◌++◌, length, map, take, get_or, All, Bool, true, false, ◌&&◌, nat_le, ⊎_elim, refl, sym, ap, ap₂, ◌∙◌, subst, arith}
+use Rattle.std.proofs.Common.{◌≡◌, ◌≢◌, ℕ, ◌+◌, ◌-◌, ◌*◌, ◌^◌, ◌<◌, ◌≤◌, min, List, [], ◌∷◌, ◌++◌, length, get_or, Bool, true, false, ◌&&◌, nat_le, ⊎_elim, refl, sym, ap, ap₂, ◌∙◌, arith}
 use lib.Bits.{bit_and}
 use Rattle.std.proofs.Math.Nat.{mod-eq_of_lt, pow-le-pow_right}
 use Rattle.std.proofs.lemmas.Nat.{and_mask, and_block}
-use Rattle.std.proofs.lemmas.List.{get_or-map, length-map}
 use Rattle.std.proofs.lemmas.Bool.{cases_lt, leb-true}
 use Rattle.fj_mono.specs.Monomial.{Monomial}
 use Rattle.fj_theory.specs.Exponents.{divides}
-use Rattle.fj_basis.specs.Leads.{NoneDivides, exponents_of, height, mask_after}
+use Rattle.fj_basis.specs.Leads.{NoneDivides, height, mask_after}
 
 tall : (e : ℕ) → (0 < 2 ^ min e 8) × (2 ^ min e 8 ≤ 256)
 tall e =

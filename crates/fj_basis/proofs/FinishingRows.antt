@@ -1,18 +1,12 @@
--- Members at their places, and quotients of divisions by members.
-use Rattle.std.proofs.Common.{◌≡◌, ◌≢◌, ℕ, ◌<◌, List, [], ◌∷◌, ◌++◌, length, All, get_or, sym, ap, ◌∙◌, arith}
-use Rattle.std.specs.FinMap.{empty}
-use Rattle.fj_coeff.specs.Field.{Field, IsField}
-use Rattle.fj_theory.specs.MonomialOrder.{IsMonomialOrder}
-use Rattle.fj_theory.specs.Polynomial.{Polynomial, IsPolynomial}
-use Rattle.fj_theory.specs.Ideal.{ArePolynomials}
+-- Members at their places, and rows of quotients.
+use Rattle.std.proofs.Common.{◌≡◌, ℕ, ◌<◌, List, [], ◌∷◌, ◌++◌, length, get_or, sym, ap, ◌∙◌}
+use Rattle.fj_coeff.specs.Field.{Field}
+use Rattle.fj_theory.specs.Polynomial.{Polynomial}
 use Rattle.fj_theory.specs.Lead.{lead_exponents}
-use Rattle.fj_groebner.specs.Division.{Sugared, Division, AreWithinSugars, DegreeAtMost, IsLowDivision, degree_limit, polynomials_of}
+use Rattle.fj_groebner.specs.Division.{Sugared}
 use Rattle.fj_groebner.specs.Run.{given, lead_of}
-use Rattle.fj_groebner.proofs.Division.{IsDivision-quotients, IsDivision-length}
-use Rattle.fj_groebner.proofs.Sugar.{StepsTo-IsWithinSugar}
 use Rattle.fj_basis.specs.declared.members.Member.{Member}
 use Rattle.fj_basis.specs.Members.{sugared_members}
-use Rattle.fj_basis.specs.Quotients.{AreQuotientsWithin}
 use Rattle.fj_basis.specs.Finished.{IsQuotients, AreQuotients}
 use Rattle.fj_basis.proofs.Subtracted.{member_at-sugared}
 
@@ -26,19 +20,6 @@ module _ {K O : Type 0} (key : List ℕ → List ℕ) where
 pub given-sugared : (f : Polynomial) (n : ℕ) → n ≡ (given f).sugar → record { polynomial = f; sugar = n } ≡ given f
 unfolding given
 given-sugared f n e = λ i. record { polynomial = f; sugar = e i }
-
--- The quotients of a division without high sugars are within the limit.
-pub quotients_within : {F : Field} (L : IsField F) {key : List ℕ → List ℕ} (O : IsMonomialOrder key) (G : List Sugared) → ArePolynomials F (polynomials_of G)
-    → All (λ g. g ≢ empty) (polynomials_of G) → AreWithinSugars G → {h : Sugared} → IsPolynomial F h.polynomial → DegreeAtMost h.sugar h.polynomial → {last : Division}
-    → IsLowDivision F key G h last → AreQuotientsWithin F G degree_limit last.quotients
-quotients_within L O G A nonzero within {h} H bound {last} D =
-    let inside = StepsTo-IsWithinSugar O L G A nonzero within h H bound D.division.states last D.division.steps in
-    let low = D.low in
-    record {
-      polynomials = IsDivision-quotients O L G A nonzero H D.division;
-      long = IsDivision-length O L G A nonzero H D.division;
-      within = λ k l a p. let own = inside.quotients k l a p in omega (arith, own, low);
-    }
 
 -- One row of quotients more.
 pub AreQuotients-more : {F : Field} {key : List ℕ → List ℕ} {G : List Sugared} (L : List Polynomial) (rows : List (List Polynomial)) (f : Polynomial) (row : List Polynomial)

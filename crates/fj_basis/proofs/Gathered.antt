@@ -1,7 +1,7 @@
 -- Lists that a loop gathers, an element at a time.
-use Rattle.std.proofs.Common.{◌≡◌, ℕ, ◌+◌, ◌<◌, List, [], ◌∷◌, ◌++◌, length, map, take, All, get_or, sym, ap, ap₂, ◌∙◌, subst, add-one}
+use Rattle.std.proofs.Common.{◌≡◌, ℕ, ◌+◌, ◌<◌, List, [], ◌∷◌, ◌++◌, length, map, take, drop, All, get_or, sym, ap, ap₂, ◌∙◌, subst, arith, add-one}
 use Rattle.std.proofs.Math.Seq.{take-suc}
-use Rattle.std.proofs.lemmas.List.{map-append}
+use Rattle.std.proofs.lemmas.List.{append-nil, drop_all, map-append, take_all}
 use Rattle.std.proofs.lemmas.List.Elements.{All-nil, All-cons, All-append}
 
 -- One element more: its view is the value of the next element.
@@ -28,3 +28,8 @@ gathered_views f ys new y xs i x l at before is e =
 -- What holds of all that is gathered holds with one more.
 pub gathered_all : {B : Type 0} (P : B → Type 0) (ys new : List B) (y : B) → All P ys → P y → new ≡ ys ++ y ∷ [] → All P new
 gathered_all P ys new y all here e = subst (All P) (sym e) (All-append P ys (y ∷ []) all (All-cons P y [] here (All-nil P)))
+
+-- A list all of whose elements are written is what was written.
+pub whole-written : {A : Type 0} (n : ℕ) (new old : List A) → length new ≡ length old → n ≡ length old → take n (new ++ drop (length new) old) ≡ new
+whole-written n new old long whole =
+    ap (λ more. take n (new ++ more)) (drop_all (length new) old (omega (arith, long))) ∙ ap (take n) (append-nil new) ∙ take_all n new (omega (arith, long, whole))

@@ -1,15 +1,14 @@
 -- Members of a run, their leads and their multiples.
-use Rattle.std.proofs.Common.{◌≡◌, ◌≢◌, ℕ, suc, ◌+◌, ◌-◌, ◌<◌, ◌≤◌, max, List, [], ◌∷◌, ◌++◌, length, length-append, get_or, All, IsTrue, Option, Some, None, is_some, true, Result, Ok, Err, refl, sym, ap, ap₂, ◌∙◌, subst, arith}
+use Rattle.std.proofs.Common.{◌≡◌, ◌≢◌, ℕ, ◌+◌, ◌-◌, ◌<◌, ◌≤◌, max, List, length, get_or, All, IsTrue, Option, Some, None, is_some, true, Result, Ok, Err, refl, sym, ap, ◌∙◌, subst, arith}
 use Rattle.std.specs.FinMap.{empty}
-use Rattle.std.proofs.lemmas.List.{length-map, get_or-map, get_or_default, get_or_append_left, get_or_push}
+use Rattle.std.proofs.lemmas.List.{length-map}
 use Rattle.fj_algebra.proofs.Lists.{All-map_back}
 use Rattle.fj_coeff.specs.Field.{Field, IsField}
-use Rattle.fj_theory.specs.Exponents.{IsExponents, total, minus, divides, least_common_multiple}
+use Rattle.fj_theory.specs.Exponents.{IsExponents, total, minus, divides}
 use Rattle.fj_theory.specs.MonomialOrder.{IsMonomialOrder}
 use Rattle.fj_theory.specs.Polynomial.{difference, Polynomial, IsPolynomial, product, term}
 use Rattle.fj_theory.specs.Ideal.{ArePolynomials}
 use Rattle.fj_theory.specs.Lead.{lead_exponents, lead_coefficient}
-use Rattle.fj_groebner.specs.Rows.{add_multiple, add_multiples}
 use Rattle.fj_groebner.specs.Division.{Sugared, polynomials_of, member_at, AreWithinSugars, DegreeAtMost, degree_limit}
 use Rattle.fj_groebner.specs.Run.{lead_of, pair_multiple, s_polynomial, IsRun}
 use Rattle.fj_groebner.specs.Run as definition
@@ -25,9 +24,9 @@ use Rattle.fj_poly.specs.Limit.{IsHigh, IsHighWhere}
 use Rattle.fj_poly.specs.declared.fault.PolyFault.{PolyFault}
 use Rattle.fj_poly.specs.declared.fault.PolyFault.TheVariants.{High, Memory}
 use Rattle.fj_basis.specs.declared.members.Member.{Member}
-use Rattle.fj_basis.specs.Members.{sugared, sugared_members, IsRowWithin, IsTraced}
+use Rattle.fj_basis.specs.Members.{sugared, sugared_members}
 use Rattle.fj_basis.specs.Finished.{AreMembersOfRun}
-use Rattle.fj_basis.specs.State.{IsPairOf, row_at, s_polynomial_row}
+use Rattle.fj_basis.specs.State.{IsPairOf}
 use Rattle.fj_basis.specs.Place.{IsWithinLimit}
 use Rattle.fj_basis.specs.declared.pairs.Pair.{Pair}
 use Rattle.fj_basis.specs.Outcome.{IsHighOnlyWhere}
@@ -109,16 +108,6 @@ module _ {F : Field} (L : IsField F) {key : List ℕ → List ℕ} (O : IsMonomi
     unfolding pair_multiple
     second-divides i j l m = divides-least_common_multiple_right _ _ ((lead-exponents i l).eight ∙ sym (lead-exponents j m).eight)
 
-    -- The products with the cofactors of a member are not high either.
-    pub row-low : (k : ℕ) → k < length G → (m : List ℕ) → IsExponents m → IsTrue (divides (lead_of key G k) m)
-        → ((member_at G k).sugar - total (lead_of key G k)) + total m ≤ degree_limit → (c : ℕ) → c < F.size → (row : List Polynomial) → ArePolynomials F row
-        → All (DegreeAtMost (member_at G k).sugar) row → All (λ y. IsHigh (product F (term c (minus m (lead_of key G k))) y) → ⊥) row
-    row-low k l m M d low c h row are within i e n =
-        let B = lead-exponents k l in
-        let whole = sym (total-plus_exponents B (IsExponents-minus M B)) ∙ ap total (plus-minus B M d) in
-        let bound = lead-total k l in
-        product_term-low L (are.each i e n) c h (IsExponents-minus M B) (member_at G k).sugar (within i e n) (omega (arith, whole, bound, low))
-
   -- The members of a state are good.
   pub state-good : {K R : Type 0} {members : List (Member K R)} → AreMembersOfRun F key members → AreGood F key (sugared_members members)
   state-good h = subst (AreGood F key) h.are (IsRun-AreGood h.given h.run)
@@ -134,15 +123,6 @@ lead_of-is key members k m l is = ap (λ x. lead_exponents key x.polynomial) (me
 
 pub nonzero_at : {K R : Type 0} (members : List (Member K R)) → All (λ m. m.polynomial ≢ empty) members → (k : ℕ) (m : Member K R) → k < length members → m ≡ get_or members k m → m.polynomial ≢ empty
 nonzero_at members all k m l is e = all k m l (ap (λ x. x.polynomial) (sym is) ∙ e)
-
-pub traced_at : {K R : Type 0} {F : Field} {N : List Polynomial} (members : List (Member K R)) → All (IsTraced F N) members → (k : ℕ) (m : Member K R) → k < length members → m ≡ get_or members k m
-    → IsTraced F N m
-traced_at {F = F} {N = N} members all k m l is = subst (IsTraced F N) (sym is) (all k m l)
-
--- The cofactors of the member at a place.
-pub row_at-is : {K R : Type 0} (members : List (Member K R)) (k : ℕ) (m : Member K R) → k < length members → m ≡ get_or members k m → row_at members k ≡ m.row.items
-unfolding row_at
-row_at-is members k m l is = get_or-map (λ x. x.row.items) members k m [] l ∙ ap (λ x. x.row.items) (sym is)
 
 -- The parts of an S-polynomial.
 pub s-sugar : (F : Field) (key : List ℕ → List ℕ) (G : List Sugared) (i j : ℕ)
@@ -161,20 +141,6 @@ some_multiple F key G p own low None e =
 pub multiple_is : {R : Type 0} (key : List ℕ → List ℕ) (G : List Sugared) (p : Pair R) → IsPairOf key G p → (m : Monomial) → Some m ≡ p.multiple → m.exponents ≡ pair_multiple key G (p.i, p.j)
 multiple_is key G p own m e = subst (IsWithinLimit (pair_multiple key G (p.i, p.j))) (sym e) own.multiple
 
--- The pair of a member that is appended with an earlier one.
-pub pair_of-appended : {K R : Type 0} (key : List ℕ → List ℕ) (members : List (Member K R)) (new m : Member K R) (i : ℕ) (p : Pair R) → i < length members → m ≡ get_or members i m
-    → p.i ≡ i → p.j ≡ length members → IsWithinLimit (least_common_multiple (lead_exponents key m.polynomial) (lead_exponents key new.polynomial)) p.multiple
-    → IsPairOf key (sugared_members (members ++ new ∷ [])) p
-unfolding pair_multiple
-pair_of-appended key members new m i p l is is_i is_j within =
-    let long = length-append members (new ∷ []) in
-    let first = lead_of-is key (members ++ new ∷ []) i m (omega (arith, l, long)) (is ∙ sym (get_or_append_left members (new ∷ []) m i l)) in
-    let second = lead_of-is key (members ++ new ∷ []) (length members) new (omega (arith, long)) (sym (get_or_push members new new (length members) refl)) in
-    record {
-      multiple = subst (λ a. IsWithinLimit a p.multiple)
-          (ap₂ least_common_multiple (sym first ∙ ap (lead_of key (sugared_members (members ++ new ∷ []))) (sym is_i)) (sym second ∙ ap (lead_of key (sugared_members (members ++ new ∷ []))) (sym is_j))) within;
-    }
-
 -- Its polynomial.
 pub s-polynomial : (F : Field) (key : List ℕ → List ℕ) (G : List Sugared) (i j : ℕ)
     → (s_polynomial F key G (i, j)).polynomial
@@ -185,46 +151,3 @@ s-polynomial F key G i j = refl
 pub s-is : (F : Field) (key : List ℕ → List ℕ) (G : List Sugared) (i j : ℕ) (f : Polynomial) (n : ℕ) → f ≡ (s_polynomial F key G (i, j)).polynomial → n ≡ (s_polynomial F key G (i, j)).sugar
     → record { polynomial = f; sugar = n } ≡ s_polynomial F key G (i, j)
 s-is F key G i j f n e h = λ x. record { polynomial = e x; sugar = h x }
-
--- The rows of the members of a state.
-module _ {K R : Type 0} {F : Field} {N : List Polynomial} where
-  pub row-traced : (members : List (Member K R)) → All (IsTraced F N) members → (k : ℕ) → k < length members → IsRowWithin F (member_at (sugared_members members) k).sugar (length N) (row_at members k)
-  unfolding row_at
-  row-traced [] all k l = absurd (omega (arith, l))
-  row-traced (x ∷ members) all k l =
-      let m = get_or (x ∷ members) k x in
-      let t = all k x l in
-      let is = get_or-map (λ y. y.row.items) (x ∷ members) k x [] l in
-      let own : member_at (sugared_members (x ∷ members)) k ≡ sugared m = member_is (x ∷ members) k m l (get_or_default (x ∷ members) k x m l) in
-      subst (IsRowWithin F (member_at (sugared_members (x ∷ members)) k).sugar (length N)) (sym is) (record {
-        polynomials = t.row.polynomials;
-        long = t.row.long;
-        within = subst (λ n. All (DegreeAtMost n) m.row.items) (sym (ap (λ g. g.sugar) own)) t.within;
-      })
-
-  pub rows-within : (members : List (Member K R)) → All (IsTraced F N) members → All (λ m. IsRowWithin F m.sugar (length N) m.row.items) members
-  rows-within members all k d l =
-      let t = all k d l in
-      record { polynomials = t.row.polynomials; long = t.row.long; within = t.within }
-
--- One row added to another, its parts put otherwise.
-pub same_step : {K R : Type 0} (F : Field) (key : List ℕ → List ℕ) (members : List (Member K R)) {c d k l : ℕ} {a b : List ℕ} {s t : List Polynomial} → c ≡ d → k ≡ l → a ≡ b → s ≡ t
-    → add_multiple F (term c (minus a (lead_of key (sugared_members members) k))) s (row_at members k) ≡ add_multiple F (term d (minus b (lead_of key (sugared_members members) l))) t (row_at members l)
-same_step F key members ec ek ea es = λ i. add_multiple F (term (ec i) (minus (ea i) (lead_of key (sugared_members members) (ek i)))) (es i) (row_at members (ek i))
-
-pub length-added_row : (F : Field) (f : Polynomial) (xs ys : List Polynomial) → length (add_multiple F f xs ys) ≡ length xs
-unfolding add_multiple
-length-added_row F f [] ys = refl
-length-added_row F f (x ∷ xs) [] = refl
-length-added_row F f (x ∷ xs) (y ∷ ys) = ap suc (length-added_row F f xs ys)
-
-pub length-added_rows : (F : Field) (fs : List Polynomial) (rows : List (List Polynomial)) (first : List Polynomial) → length (add_multiples F fs rows first) ≡ length first
-unfolding add_multiples
-length-added_rows F [] rows first = refl
-length-added_rows F (f ∷ fs) [] first = refl
-length-added_rows F (f ∷ fs) (row ∷ rows) first = length-added_rows F fs rows (add_multiple F f first row) ∙ length-added_row F f first row
-
-pub length-s_row : {K R : Type 0} (F : Field) (key : List ℕ → List ℕ) (members : List (Member K R)) (start : List Polynomial) (pair : ℕ × ℕ) (quotients : List Polynomial)
-    → length (s_polynomial_row F key members start pair quotients) ≡ length start
-unfolding s_polynomial_row
-length-s_row F key members start pair quotients = length-added_rows F _ _ _ ∙ length-added_row F _ _ _ ∙ length-added_row F _ start _

@@ -25,7 +25,11 @@ pub mod Stops
 pub mod PendingPairs
 pub mod PendingIndex
 pub mod Sparing
+pub mod Combined
 pub mod NextMember
+pub mod Replacements
+pub mod FormedRows
+pub mod Marks
 pub mod Turning
 pub mod Starting
 pub mod Copies

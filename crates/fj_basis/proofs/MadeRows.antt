@@ -1,5 +1,5 @@
 -- The cofactors of a basis both ways, and the run that is finished with it.
-use Rattle.std.proofs.Common.{◌≡◌, ℕ, ◌+◌, ◌<◌, suc, List, [], ◌∷◌, length, get_or, map, All, Any, Contains, refl, sym, ap, ◌∙◌, subst, subst₂, arith}
+use Rattle.std.proofs.Common.{◌≡◌, ℕ, ◌+◌, ◌<◌, suc, List, [], ◌∷◌, ◌++◌, length, length-append, get_or, map, All, Any, Contains, refl, sym, ap, ◌∙◌, subst, arith}
 use Rattle.std.specs.FinMap.{empty}
 use Rattle.std.specs.List.{range_with_len}
 use Rattle.std.proofs.lemmas.List.{length-map}
@@ -11,7 +11,7 @@ use Rattle.fj_theory.specs.Polynomial.{Polynomial, IsPolynomial, sum}
 use Rattle.fj_theory.specs.Ideal.{ArePolynomials, Member, list_combination}
 use Rattle.fj_groebner.specs.ReducedBasis.{IsReducedBasis}
 use Rattle.fj_groebner.specs.Rows.{AreRows, IsRow}
-use Rattle.fj_groebner.specs.Division.{Division, IsHighDivision, IsLowDivision, Sugared, polynomials_of}
+use Rattle.fj_groebner.specs.Division.{Division, IsHighDivision, IsLowDivision, Sugared, member_at, polynomials_of}
 use Rattle.fj_groebner.specs.Run.{IsFinished, IsReplacing, given}
 use Rattle.fj_groebner.specs.Run as definition
 use Rattle.fj_groebner.proofs.Division.{IsDivision-length, IsDivision-quotients, Member-IsDivision, division_identity}
@@ -22,12 +22,13 @@ use Rattle.fj_theory.proofs.PolynomialRing.{product_comm, product_one, sum_empty
 use Rattle.fj_groebner.proofs.Rows.{IsPolynomial-list_combination, IsRow-one}
 use Rattle.fj_basis.specs.declared.members.Member as code
 use Rattle.fj_basis.specs.declared.run.Run as code_run
-use Rattle.fj_basis.specs.Basis.{IsMadeOf, IsResult, WithCofactors, unit_row, unit_rows}
-use Rattle.fj_basis.specs.Finished.{AreMembersOfRun, AreQuotients, IsHighReplacing, IsQuotients}
-use Rattle.fj_basis.specs.Members.{IsTraced, sugared_members}
+use Rattle.fj_basis.specs.Basis.{unit_row, unit_rows}
+use Rattle.fj_basis.specs.Finished.{AreDivisors, AreMembersOfRun, AreQuotients, IsHighReplacing, IsQuotients}
+use Rattle.fj_basis.specs.Members.{sugared_members}
 use Rattle.fj_basis.specs.State.{ArePending, IsEnded}
-use Rattle.fj_basis.proofs.ReplacingSteps.{AreDivisors, IsReplacing-AreDivisors}
-use Rattle.fj_basis.proofs.RowBounds.{traced-AreRows}
+use Rattle.fj_basis.specs.Forming.{AreRowsFrom}
+use Rattle.fj_basis.proofs.Combined.{member_at-right}
+use Rattle.fj_basis.proofs.ReplacingSteps.{IsReplacing-AreDivisors}
 
 -- A table of rows has a row for each polynomial, and an entry for each of the list.
 pub AreRows-long : (F : Field) (N : List Polynomial) (G : List Polynomial) (rows : List (List Polynomial)) → AreRows F N G rows → length rows ≡ length G
@@ -109,7 +110,7 @@ IsEnded-members {F} {key} {M} h e = subst (AreMembersOfRun F key) (sym e) (recor
   state = h.after.state;
   run = h.after.run;
   are = h.after.members;
-  traced = h.after.traced;
+  in_place = h.after.in_place;
 })
 
 -- A run that has ended, with a sugar above the limit in the second act.
@@ -136,7 +137,7 @@ module _ {K O : Type 0} {F : Field} (L : IsField F) {key : List ℕ → List ℕ
       (subst (λ G. IsReplacing F key G (record { replaced = sugared_members basis; rest = [] })) (ap sugared_members are ∙ sym ended.after.members) replacing) any)
 
   module _ (rows : List (List Polynomial)) (quotients : AreQuotients F key (sugared_members basis) M rows) where
-    ended-IsFinished : IsFinished F key M budget (sugared_members basis)
+    pub ended-IsFinished : IsFinished F key M budget (sugared_members basis)
     ended-IsFinished = record {
       turns = ended.turns;
       last = ended.after.state;
@@ -154,19 +155,6 @@ module _ {K O : Type 0} {F : Field} (L : IsField F) {key : List ℕ → List ℕ
 
     pub ended-up : AreRows F (polynomials_of (sugared_members basis)) M rows
     ended-up = AreQuotients-AreRows L R ended.after.given (sugared_members basis) ended-AreDivisors reduced M rows ended.after.given (Member-elements L ended.after.given) quotients
-
-    pub ended-IsReducedBasis : {fs : List Polynomial} → fs ≡ map (λ m. m.polynomial) basis → IsReducedBasis F key M fs
-    ended-IsReducedBasis e = subst (IsReducedBasis F key M) (polynomials-sugared basis ∙ sym e) reduced
-
-    module _ {b : WithCofactors} (members_are : b.members ≡ map (λ m. m.polynomial) basis) where
-      pub ended-IsResult : IsResult F key M budget b
-      ended-IsResult = record { basis = sugared_members basis; finished = ended-IsFinished; members = polynomials-sugared basis ∙ sym members_are }
-
-      pub ended-IsMadeOf : All (IsTraced F M) basis → b.down ≡ map (λ m. m.row.items) basis → b.up ≡ rows → IsMadeOf F M b
-      ended-IsMadeOf traced down up = record {
-        down = subst₂ (AreRows F M) (polynomials-sugared basis ∙ sym members_are) (sym down) (traced-AreRows L basis traced);
-        up = subst₂ (λ G rows. AreRows F G M rows) (polynomials-sugared basis ∙ sym members_are) (sym up) ended-up;
-      }
 
 -- A list is made of itself by the unit rows.
 module _ {F : Field} (L : IsField F) (N : List Polynomial) (A : ArePolynomials F N) where
@@ -187,3 +175,19 @@ module _ {F : Field} (L : IsField F) (N : List Polynomial) (A : ArePolynomials F
 
   pub AreRows-unit_rows : AreRows F N N (unit_rows (length N))
   AreRows-unit_rows = rows_from N 0 (omega arith) (λ i l. ap (λ n. get_or N n empty) (omega arith))
+
+-- Rows that are formed are the cofactors of the polynomials from their place on.
+table : {F : Field} {N : List Polynomial} (G : List Sugared) (rows : List (List Polynomial)) → length rows ≡ length G
+    → ((k : ℕ) (d : List Polynomial) → k < length rows → IsRow F N (member_at G k).polynomial (get_or rows k d)) → AreRows F N (polynomials_of G) rows
+unfolding AreRows member_at
+table [] [] l each = tt
+table [] (row ∷ rows) l each = absurd (omega (arith, l))
+table (g ∷ G) [] l each = absurd (omega (arith, l))
+table (g ∷ G) (row ∷ rows) l each = (each 0 [] (omega arith), table G rows (omega (arith, l)) (λ k d m. each (suc k) d (omega (arith, m))))
+
+pub AreRows-formed : {F : Field} {N : List Polynomial} (before G : List Sugared) (from : ℕ) (rows : List (List Polynomial)) → length before ≡ from → AreRowsFrom F N (before ++ G) from rows
+    → AreRows F N (polynomials_of G) rows
+AreRows-formed {F} {N} before G from rows e h =
+    let long = h.long in
+    table G rows (omega (arith, e, long, length-append before G))
+    (λ k d l. subst (λ (g : Sugared). IsRow F N g.polynomial (get_or rows k d)) (ap (λ n. member_at (before ++ G) (n + k)) (sym e) ∙ member_at-right before G k) (h.each k d l).is)

@@ -1,12 +1,11 @@
 -- The member that a pair of a run gives.
 use Rattle.std.proofs.Common.{◌≡◌, ◌≢◌, ℕ, zero, suc, ◌+◌, ◌-◌, ◌<◌, ◌≤◌, Option, Some, None, List, [], ◌∷◌, get_or, length, map, replicate, All, IsTrue, refl, sym, ap, ap₂, ◌∙◌, subst, subst₂, arith}
 use Rattle.std.specs.FinMap.{empty}
-use Rattle.std.proofs.lemmas.List.{get_or_default}
-use Rattle.std.proofs.lemmas.List.Elements.{All-map, All-replicate, All-weaker}
+use Rattle.std.proofs.lemmas.List.Elements.{All-cons, All-nil}
 use Rattle.fj_coeff.specs.Field.{Field, IsField}
 use Rattle.fj_theory.specs.Exponents.{IsExponents, divides, minus, origin, total}
 use Rattle.fj_theory.specs.MonomialOrder.{IsMonomialOrder}
-use Rattle.fj_theory.specs.Polynomial.{difference, Polynomial, IsPolynomial, coefficient, product, sum, term}
+use Rattle.fj_theory.specs.Polynomial.{difference, Polynomial, IsPolynomial, coefficient, negation, product, sum, term}
 use Rattle.fj_theory.specs.Ideal.{ArePolynomials}
 use Rattle.fj_theory.specs.Lead.{lead_coefficient, lead_exponents, made_monic}
 use Rattle.fj_groebner.specs.Rows.{IsRow, add_multiple}
@@ -14,25 +13,29 @@ use Rattle.fj_theory.specs.Steps.{StepsTo}
 use Rattle.fj_groebner.specs.Division.{DegreeAtMost, Division, IsDivisionStep, IsHighDivision, IsLowDivision, IsWithinSugar, Sugared, cancel_lead, degree_limit, division_start, first_divisor, member_at, move_lead, step_by}
 use Rattle.fj_groebner.specs.Run.{lead_of, monic_member, pair_multiple, s_polynomial}
 use Rattle.fj_theory.proofs.Degree.{product_nonzero}
-use Rattle.fj_groebner.proofs.Division.{IsDivision-quotients, IsDivision-remainder_polynomial}
+use Rattle.fj_groebner.proofs.Division.{IsDivision-length, IsDivision-quotients, IsDivision-remainder, IsDivision-remainder_polynomial}
 use Rattle.fj_theory.proofs.Exponents.{IsExponents-minus, IsExponents-origin, plus-minus, total_origin, total-plus_exponents}
 use Rattle.fj_theory.proofs.Field.{one_below, zero_below}
 use Rattle.fj_theory.proofs.IdealBridge.{ArePolynomials-head, ArePolynomials-tail}
 use Rattle.fj_theory.proofs.Lead.{lead_coefficient-below, lead_coefficient-nonzero}
 use Rattle.fj_groebner.proofs.Multiple.{length-least_common_multiple}
 use Rattle.fj_theory.proofs.Polynomial.{coefficient-empty, coefficient-term_same, IsPolynomial-empty, IsPolynomial-term}
-use Rattle.fj_theory.proofs.PolynomialRing.{sum_comm, sum_empty}
+use Rattle.fj_theory.proofs.PolynomialRing.{IsPolynomial-negation, sum_comm, sum_empty}
 use Rattle.fj_theory.proofs.Product.{IsPolynomial-product}
-use Rattle.fj_groebner.proofs.Rows.{IsRow-add_multiple, IsRow-remainder, IsRow-zero}
+use Rattle.fj_groebner.proofs.Rows.{IsRow-add_multiple, IsRow-zero, list_combination-negation}
 use Rattle.fj_theory.proofs.Steps.{StepsTo-keeps}
-use Rattle.fj_groebner.proofs.Sugar.{DegreeAtMost-made_monic, StepsTo-IsWithinSugar}
+use Rattle.fj_groebner.proofs.Sugar.{StepsTo-IsWithinSugar}
 use Rattle.fj_basis.specs.declared.members.Member.{Member}
-use Rattle.fj_basis.specs.Members.{IsTraced, sugared, sugared_members}
-use Rattle.fj_basis.specs.State.{row_at, s_polynomial_row}
+use Rattle.fj_basis.specs.Members.{sugared_members}
+use Rattle.fj_basis.specs.declared.history.Summand.{Summand}
+use Rattle.fj_basis.specs.declared.history.Making.{Making}
+use Rattle.fj_basis.specs.History.{ArePairSummands, IsMaking, IsSourceOf, IsSummand, IsWithNegatives, combined, polynomial_at, subtracted}
+use Rattle.fj_basis.proofs.Combined.{IsSummand-at, combined-two, member_at-IsPolynomial, subtracted-is}
+use Rattle.fj_basis.proofs.Rows.{negation-positive}
 use Rattle.fj_basis.proofs.UnderWay.{member-polynomial}
-use Rattle.fj_basis.proofs.Leading.{member_is, row_at-is, AreGood, first-divides, lead-exponents, lead-total, places, row-traced, s-polynomial, s-sugar, second-divides}
+use Rattle.fj_basis.proofs.Leading.{AreGood, first-divides, lead-exponents, lead-total, places, s-polynomial, s-sugar, second-divides}
 use Rattle.fj_basis.proofs.Multiples.{product_term-negation, quotient_nonzero}
-use Rattle.fj_basis.proofs.RowBounds.{DegreeAtMost-add_multiple, DegreeAtMost-empty, DegreeAtMost-more, DegreeAtMost-product, DegreeAtMost-subtracted, term-positive, traced-AreRows}
+use Rattle.fj_basis.proofs.RowBounds.{term-positive}
 
 -- The sugar of a division doesn't fall.
 module _ (F : Field) (key : List ℕ → List ℕ) (G : List Sugared) where
@@ -50,7 +53,7 @@ module _ (F : Field) (key : List ℕ → List ℕ) (G : List Sugared) where
       StepsTo-keeps (IsDivisionStep F key G) (λ d. h.sugar ≤ d.sugar) (λ s t step l. let rises = step-sugar s t step in omega (arith, rises, l)) states (division_start G h) last steps (omega arith)
 
 -- A row times a factor is its multiple added to zeros.
-zero-sum : {F : Field} (L : IsField F) {f : Polynomial} → IsPolynomial F f → sum F empty f ≡ f
+pub zero-sum : {F : Field} (L : IsField F) {f : Polynomial} → IsPolynomial F f → sum F empty f ≡ f
 zero-sum {F} L P = sum_comm L (IsPolynomial-empty F) P ∙ sum_empty L P
 
 module _ {F : Field} (L : IsField F) {c : Polynomial} (C : IsPolynomial F c) where
@@ -65,18 +68,18 @@ module _ {F : Field} (L : IsField F) {c : Polynomial} (C : IsPolynomial F c) whe
   IsRow-scaled {N} A {f} {row} P r =
       subst₂ (IsRow F N) (zero-sum L (IsPolynomial-product L C P)) (add-zeros (length N) row r.long r.polynomials) (IsRow-add_multiple L A C (IsRow-zero L N A) r)
 
--- The row of a member.
-row-IsRow : {K R : Type 0} {F : Field} {N : List Polynomial} (members : List (Member K R)) → All (IsTraced F N) members → (k : ℕ) → k < length members
-    → IsRow F N (member_at (sugared_members members) k).polynomial (row_at members k)
-row-IsRow [] all k l = absurd (omega (arith, l))
-row-IsRow {F = F} {N = N} (x ∷ members) all k l =
-    let m = get_or (x ∷ members) k x in
-    let is = get_or_default (x ∷ members) k x m l in
-    subst₂ (IsRow F N) (sym (ap (λ g. g.polynomial) (member_is (x ∷ members) k m l is))) (sym (row_at-is (x ∷ members) k m l is)) (all k x l).row
+-- The constant that makes a polynomial monic.
+pub IsPolynomial-constant : {F : Field} (L : IsField F) {key : List ℕ → List ℕ} (O : IsMonomialOrder key) {f : Polynomial} → IsPolynomial F f → f ≢ empty
+    → IsPolynomial F (term (F.inverse (lead_coefficient key f)) origin)
+IsPolynomial-constant L O P some =
+    IsPolynomial-term _ (L.inverse_below _ (lead_coefficient-nonzero O P some) (lead_coefficient-below O P (zero_below L))) IsExponents-origin
 
--- The cofactors of the next member.
-module _ {K R : Type 0} {F : Field} (L : IsField F) {key : List ℕ → List ℕ} (O : IsMonomialOrder key) {N : List Polynomial} (A : ArePolynomials F N) (members : List (Member K R))
-    (good : AreGood F key (sugared_members members)) (traced : All (IsTraced F N) members) (i j : ℕ) (l : i < length members) (m : j < length members) where
+pub constant-degree : (c : ℕ) → DegreeAtMost 0 (term c origin)
+constant-degree c = record { within = λ a p. let e = ap total (term-positive c origin a p) in omega (arith, e, total_origin) }
+
+-- How the next member is made.
+module _ {K R : Type 0} {F : Field} (L : IsField F) {key : List ℕ → List ℕ} (O : IsMonomialOrder key) (members : List (Member K R))
+    (good : AreGood F key (sugared_members members)) (i j : ℕ) (l : i < length members) (m : j < length members) where
   abbrev G : List Sugared
   G = sugared_members members
 
@@ -88,12 +91,6 @@ module _ {K R : Type 0} {F : Field} (L : IsField F) {key : List ℕ → List ℕ
 
   abbrev factor : ℕ → ℕ → Polynomial
   factor c k = term c (minus multiple (lead_of key G k))
-
-  abbrev first_row : List Polynomial
-  first_row = add_multiple F (factor 1 i) (replicate (length (row_at members i)) empty) (row_at members i)
-
-  abbrev both_rows : List Polynomial
-  both_rows = add_multiple F (factor (F.neg 1) j) first_row (row_at members j)
 
   Multiple : IsExponents multiple
   unfolding pair_multiple
@@ -121,9 +118,6 @@ module _ {K R : Type 0} {F : Field} (L : IsField F) {key : List ℕ → List ℕ
   second-low : ((member_at G j).sugar - total (lead_of key G j)) + total multiple ≤ s.sugar
   second-low = omega (arith, s-sugar F key G i j)
 
-  zeros-IsRow : IsRow F N empty (replicate (length (row_at members i)) empty)
-  zeros-IsRow = subst (λ n. IsRow F N empty (replicate n empty)) (sym (row-traced members traced i l).long) (IsRow-zero L N A)
-
   member-IsPolynomial : (k : ℕ) → k < length members → IsPolynomial F (member_at G k).polynomial
   member-IsPolynomial k n = member-polynomial L O G good.polynomials good.nonzero k (places members k n)
 
@@ -135,62 +129,61 @@ module _ {K R : Type 0} {F : Field} (L : IsField F) {key : List ℕ → List ℕ
       (product_term-negation L (member-IsPolynomial j m) 1 (one_below L) (IsExponents-minus Multiple C))
       ∙ sym (s-polynomial F key G i j)
 
-  both-IsRow : IsRow F N s.polynomial both_rows
-  both-IsRow =
-      subst (λ f. IsRow F N f (add_multiple F (factor (F.neg 1) j) (add_multiple F (factor 1 i) (replicate (length (row_at members i)) empty) (row_at members i)) (row_at members j))) both-is
-      (IsRow-add_multiple L A (factor-IsPolynomial (F.neg 1) j neg_below m)
-      (IsRow-add_multiple L A (factor-IsPolynomial 1 i (one_below L) l) zeros-IsRow (row-IsRow members traced i l)) (row-IsRow members traced j m))
-    where
-      neg_below : F.neg 1 < F.size
-      neg_below = L.neg_below 1 (one_below L)
-
-  both-within : All (DegreeAtMost s.sugar) both_rows
-  both-within =
-      let first = row-traced members traced i l in
-      let second = row-traced members traced j m in
-      DegreeAtMost-add_multiple L (factor-IsPolynomial (F.neg 1) j (L.neg_below 1 (one_below L)) m) (member_at G j).sugar s.sugar
-      (factor-low (F.neg 1) j m (second-divides L O G good i j (places members i l) (places members j m)) second-low) _ (row_at members j) second.polynomials
-      (DegreeAtMost-add_multiple L (factor-IsPolynomial 1 i (one_below L) l) (member_at G i).sugar s.sugar
-      (factor-low 1 i l (first-divides L O G good i j (places members i l) (places members j m)) first-low) (replicate (length (row_at members i)) empty) (row_at members i) first.polynomials
-      (All-replicate (DegreeAtMost s.sugar) (length (row_at members i)) empty (DegreeAtMost-empty s.sugar)) first.within) second.within
-
-  module _ (last : Division) (D : IsLowDivision F key G s last) where
+  module _ (last : Division) (D : IsLowDivision F key G s last) (both all : List (Summand K R)) (pair : ArePairSummands F key G (i, j) both) (with : IsWithNegatives F both 0 last.quotients all) where
     inside : IsWithinSugar G last
     inside =
         StepsTo-IsWithinSugar O L G good.polynomials good.nonzero good.within s (good.s_is i j) (good.s_within i j (places members i l) (places members j m)) D.division.states last D.division.steps
 
-    remainder-IsRow : IsRow F N last.remainder (s_polynomial_row F key members (replicate (length (row_at members i)) empty) (i, j) last.quotients)
-    unfolding s_polynomial_row
-    remainder-IsRow =
-        IsRow-remainder L O G good.polynomials good.nonzero (good.s_is i j) D.division A (map (λ m. m.row.items) members) (traced-AreRows L members traced) both-IsRow
+    Q : ArePolynomials F last.quotients
+    Q = IsDivision-quotients O L G good.polynomials good.nonzero (good.s_is i j) D.division
 
-    remainder-within : All (DegreeAtMost last.sugar) (s_polynomial_row F key members (replicate (length (row_at members i)) empty) (i, j) last.quotients)
-    unfolding s_polynomial_row
-    remainder-within =
+    both-sum : combined F (polynomial_at G) empty both ≡ s.polynomial
+    both-sum =
+        ap (combined F (polynomial_at G) empty) pair.are ∙ combined-two F (polynomial_at G) empty pair.first pair.second
+        ∙ ap₂ (sum F) (ap (sum F empty) (ap₂ (λ f k. product F f (member_at G k).polynomial) pair.first_factor pair.first_place))
+        (ap₂ (λ f k. product F f (member_at G k).polynomial) pair.second_factor pair.second_place)
+        ∙ both-is
+
+    -- The sum of the multiples is the remainder.
+    pub all-sum : last.remainder ≡ combined F (polynomial_at G) empty all
+    unfolding difference
+    all-sum =
+        let S = good.s_is i j in
+        IsDivision-remainder O L G good.polynomials good.nonzero S D.division
+        ∙ ap (sum F s.polynomial) (sym (list_combination-negation L Q good.polynomials))
+        ∙ sym (with.sum_is (polynomial_at G) empty (member_at-IsPolynomial G good.polynomials) (subst (IsPolynomial F) (sym both-sum) S)
+        ∙ ap (λ h. subtracted F (polynomial_at G) h 0 last.quotients) both-sum
+        ∙ subtracted-is L (polynomial_at G) G good.polynomials last.quotients Q (IsDivision-length O L G good.polynomials good.nonzero S D.division) 0 s.polynomial S
+        (λ k n. ap (λ x. (member_at G x).polynomial) (omega arith)))
+
+    pub each-summand : All (IsSummand F G last.sugar) all
+    each-summand =
         let rises = sugar-rises F key G s D.division.states last D.division.steps in
-        DegreeAtMost-subtracted L last.sugar last.quotients members _ (IsDivision-quotients O L G good.polynomials good.nonzero (good.s_is i j) D.division) inside.quotients traced
-        (All-weaker (DegreeAtMost s.sugar) (DegreeAtMost last.sugar) (λ f b. DegreeAtMost-more rises b) _ both-within)
+        let divides_i = first-divides L O G good i j (places members i l) (places members j m) in
+        let divides_j = second-divides L O G good i j (places members i l) (places members j m) in
+        let first = IsSummand-at {G = G} pair.first i (factor 1 i) pair.first_place pair.first_factor (places members i l) (factor-IsPolynomial 1 i (one_below L) l)
+        (λ a p. let low = factor-low 1 i l divides_i first-low a p in omega (arith, low, rises)) in
+        let second = IsSummand-at {G = G} pair.second j (factor (F.neg 1) j) pair.second_place pair.second_factor (places members j m)
+        (factor-IsPolynomial (F.neg 1) j (L.neg_below 1 (one_below L)) m) (λ a p. let low = factor-low (F.neg 1) j m divides_j second-low a p in omega (arith, low, rises)) in
+        with.each G last.sugar (subst (All (IsSummand F G last.sugar)) (sym pair.are) (All-cons (IsSummand F G last.sugar) pair.first (pair.second ∷ []) first (All-cons (IsSummand F G last.sugar) pair.second [] second (All-nil (IsSummand F G last.sugar)))))
+        (λ t k n place is.
+        let long = IsDivision-length O L G good.polynomials good.nonzero (good.s_is i j) D.division in
+        IsSummand-at {G = G} t k (negation F (get_or last.quotients k empty)) (place ∙ omega arith) is (omega (arith, n, long)) (IsPolynomial-negation L (Q.each k empty n))
+        (λ a p. inside.quotients k n a (negation-positive L (get_or last.quotients k empty) a p)))
 
-    -- The next member is traced.
-    pub next-IsTraced : (next : Member K R) → last.remainder ≢ empty → sugared next ≡ monic_member F key (record { polynomial = last.remainder; sugar = last.sugar })
-        → next.row.items ≡ map (product F (term (F.inverse (lead_coefficient key last.remainder)) origin)) (s_polynomial_row F key members (replicate (length (row_at members i)) empty) (i, j) last.quotients)
-        → IsTraced F N next
+    -- The next member is made so.
+    pub next-IsMaking : (N : List Polynomial) → last.remainder ≢ empty → (making : Making K R) → making.constant ≡ term (F.inverse (lead_coefficient key last.remainder)) origin
+        → IsSourceOf F N G last.sugar last.remainder making.source → IsMaking F N G (monic_member F key (record { polynomial = last.remainder; sugar = last.sugar })) making
     unfolding monic_member made_monic
-    next-IsTraced next some is rows =
+    next-IsMaking N some making constant source =
         let P = IsDivision-remainder_polynomial O L G good.polynomials good.nonzero (good.s_is i j) D.division in
-        let small = L.inverse_below _ (lead_coefficient-nonzero O P some) (lead_coefficient-below O P (zero_below L)) in
-        let C = IsPolynomial-term (F.inverse (lead_coefficient key last.remainder)) small IsExponents-origin in
-        let polynomial = ap (λ g. g.polynomial) is in
-        let sugar = ap (λ g. g.sugar) is in
-        let row = remainder-IsRow in
         record {
-          row = subst₂ (IsRow F N) (sym polynomial) (sym rows) (IsRow-scaled L C A P row);
-          within = subst₂ (λ n row. All (DegreeAtMost n) row) (sym sugar) (sym rows)
-              (All-map (DegreeAtMost last.sugar) (product F (term (F.inverse (lead_coefficient key last.remainder)) origin)) _
-              (λ k d n. DegreeAtMost-product L C (row.polynomials.each k d n) last.sugar last.sugar
-              (λ a p. let e = ap total (term-positive (F.inverse (lead_coefficient key last.remainder)) origin a p) in omega (arith, e, total_origin)) (remainder-within k d n)));
-          bounded = subst₂ DegreeAtMost (sym sugar) (sym polynomial) (DegreeAtMost-made_monic L O P last.sugar some inside.remainder);
-          low = let low = D.low in omega (arith, sugar, low);
+          made_of = last.remainder;
+          source = source;
+          constant = subst (IsPolynomial F) (sym constant) (IsPolynomial-constant L O P some);
+          degree = subst (DegreeAtMost 0) (sym constant) (constant-degree (F.inverse (lead_coefficient key last.remainder)));
+          is = ap (λ c. product F c last.remainder) (sym constant);
+          low = D.low;
         }
 
 -- A polynomial and its sugar as a member made monic.

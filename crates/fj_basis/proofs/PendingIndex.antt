@@ -1,5 +1,5 @@
 -- The index of the pending pairs, as places and pairs come and go.
-use Rattle.std.proofs.Common.{◌≡◌, ◌≢◌, ◌⊎◌, inl, inr, ℕ, ◌+◌, ◌<◌, ◌≤◌, nat_le, Bool, true, false, cond, IsTrue, Less, Equal, List, [], ◌∷◌, ◌++◌, length, length-append, get_or, map, set, All, Contains, nat_cmp, refl, sym, ap, ap₂, ◌∙◌, subst, subst₂, arith, true≢false}
+use Rattle.std.proofs.Common.{◌≡◌, ◌≢◌, ◌⊎◌, inl, inr, ℕ, ◌<◌, ◌≤◌, nat_le, Bool, true, false, cond, IsTrue, Less, List, [], ◌∷◌, ◌++◌, length, length-append, get_or, map, set, All, Contains, nat_cmp, refl, sym, ap, ap₂, ◌∙◌, subst, subst₂, arith, true≢false}
 use Rattle.std.specs.BTreeSet.{insert_key}
 use Rattle.std.specs.Cmp.Lexicographic.{slice_cmp}
 use Rattle.std.proofs.lemmas.Bool.{cases_lt}

@@ -1,48 +1,39 @@
--- The second act of finishing, as the code goes through it: members are replaced in turn, with their cofactors.
-use Rattle.std.proofs.Common.{◌≡◌, ◌≢◌, ℕ, ◌≤◌, List, [], ◌∷◌, ◌++◌, length, map, All, Contains, refl, sym, ap, ◌∙◌, subst, subst₂, arith}
-use Rattle.std.specs.FinMap.{empty}
-use Rattle.std.proofs.lemmas.List.{map-append}
-use Rattle.std.proofs.lemmas.List.Elements.{All-nil, All-push, All-head, All-tail, All-contains, All-weaker}
+-- The second act of finishing, as the code goes through it: members are replaced in turn.
+use Rattle.std.proofs.Common.{◌≡◌, ℕ, ◌+◌, true, length-append, append_assoc, ◌<◌, ◌≤◌, List, [], ◌∷◌, ◌++◌, length, All, Contains, refl, sym, ap, ◌∙◌, subst, arith}
+use Rattle.std.proofs.lemmas.List.{append-nil, map-append}
+use Rattle.std.proofs.lemmas.List.Elements.{All-head, All-tail, All-contains}
+use Rattle.fj_algebra.proofs.Lists.{All-map_back}
 use Rattle.fj_coeff.specs.Field.{Field, IsField}
 use Rattle.fj_theory.specs.MonomialOrder.{IsMonomialOrder}
 use Rattle.fj_theory.specs.Polynomial.{Polynomial, IsPolynomial}
-use Rattle.fj_theory.specs.Ideal.{ArePolynomials}
-use Rattle.fj_groebner.specs.Rows.{IsRow}
-use Rattle.fj_groebner.specs.Division.{AreWithinSugars, DegreeAtMost, IsHighDivision, Sugared, degree_limit, polynomials_of}
+use Rattle.fj_groebner.specs.Division.{DegreeAtMost, IsHighDivision, Sugared, degree_limit, member_at}
 use Rattle.fj_groebner.specs.Run.{IsReplacement, IsReplacing, Replacing, kept_members, sort_by_lead}
-use Rattle.fj_groebner.proofs.Division.{IsDivision-quotients}
 use Rattle.fj_theory.proofs.IdealBridge.{ArePolynomials-head}
 use Rattle.fj_theory.proofs.Lead.{nonzero-lead_coefficient}
 use Rattle.fj_groebner.proofs.Replacing.{IsReplacing-AreWithinSugars, IsReplacing-monic, IsReplacing-polynomials, IsReplacing-rest_polynomials}
-use Rattle.fj_groebner.proofs.Rows.{IsRow-remainder}
-use Rattle.fj_groebner.proofs.Sugar.{StepsTo-IsWithinSugar}
 use Rattle.fj_basis.specs.declared.members.Member.{Member}
-use Rattle.fj_basis.specs.Finished.{AreMembersOfRun, IsHighReplacing, IsReplacementOf}
-use Rattle.fj_basis.specs.Members.{IsRowWithin, IsTraced, sugared, sugared_members}
-use Rattle.fj_basis.proofs.NextMember.{sugar-rises}
-use Rattle.fj_basis.proofs.RowBounds.{DegreeAtMost-more, DegreeAtMost-subtracted, traced-AreRows}
+use Rattle.fj_basis.specs.Finished.{AreDivisors, AreMembersOfRun, IsHighReplacing, IsReplacementOf}
+use Rattle.fj_basis.specs.Members.{sugared, sugared_members}
+use Rattle.fj_basis.specs.declared.history.History.{History}
+use Rattle.fj_basis.specs.History.{HasRecordedMember, IsHistoryOf}
+use Rattle.fj_basis.proofs.Combined.{IsHistoryOf-push}
+use Rattle.fj_basis.proofs.Leading.{state-good}
+use Rattle.fj_basis.proofs.Subtracted.{member_at-sugared}
 use Rattle.fj_theory.proofs.Steps.{StepsTo-more}
-
--- What a list that divides has to be.
-pub record AreDivisors (F : Field) (G : List Sugared) : Type 0 where
-  pub polynomials : ArePolynomials F (polynomials_of G)
-  pub nonzero : All (λ f. f ≢ empty) (polynomials_of G)
-  pub within : AreWithinSugars G
 
 -- The members that are replaced so far, and the rest of those that are kept.
 pub record IsReplaced {K O : Type 0} (F : Field) (key : List ℕ → List ℕ) (members before rest : List (Member K O)) : Type 0 where
   pub replacing : IsReplacing F key (sugared_members members) (record { replaced = sugared_members before; rest = sugared_members rest })
-  pub traced : (N : List Polynomial) → ArePolynomials F N → All (IsTraced F N) members → All (IsTraced F N) before
   pub among : All (Contains members) rest
 
 -- What the next replacement asks.
-pub record IsReady {K O : Type 0} (F : Field) (before : List (Member K O)) (m : Member K O) : Type 0 where
+pub record IsReady {K O : Type 0} (F : Field) (members before : List (Member K O)) (m : Member K O) : Type 0 where
   pub divisors : AreDivisors F (sugared_members before)
   pub polynomial : IsPolynomial F m.polynomial
-  pub rows : All (λ b. IsRowWithin F b.sugar (length m.row.items) b.row.items) before
   pub bound : DegreeAtMost m.sugar m.polynomial
   pub low : m.sugar ≤ degree_limit
-  pub row : ArePolynomials F m.row.items
+  pub place : m.place < length members
+  pub at_place : member_at (sugared_members members) m.place ≡ sugared m
 
 module _ {K O : Type 0} (F : Field) (key : List ℕ → List ℕ) where
   -- None is replaced at first.
@@ -52,7 +43,6 @@ module _ {K O : Type 0} (F : Field) (key : List ℕ → List ℕ) where
       let state : List Sugared → Replacing = λ rest. record { replaced = []; rest = rest } in
       record {
         replacing = record { states = []; steps = ap state (sym is) };
-        traced = λ N A all. All-nil (IsTraced F N);
         among = among;
       }
 
@@ -83,27 +73,6 @@ module _ {K O : Type 0} (F : Field) (key : List ℕ → List ℕ) where
   }
 
 module _ {K O : Type 0} {F : Field} (L : IsField F) {key : List ℕ → List ℕ} (R : IsMonomialOrder key) where
-  -- A replacement has its cofactors.
-  pub IsTraced-replacement : {N : List Polynomial} → ArePolynomials F N → (before : List (Member K O)) → AreDivisors F (sugared_members before) → All (IsTraced F N) before
-      → (m next : Member K O) → IsPolynomial F m.polynomial → IsTraced F N m → IsReplacementOf F key before m next → IsTraced F N next
-  IsTraced-replacement {N} A before divisors traced m next H t h =
-      let G = sugared_members before in
-      let D = h.division.division in
-      let Q = IsDivision-quotients R L G divisors.polynomials divisors.nonzero {h = sugared m} H D in
-      let inside = StepsTo-IsWithinSugar R L G divisors.polynomials divisors.nonzero divisors.within (sugared m) H t.bounded D.states h.last D.steps in
-      let more = sugar-rises F key G (sugared m) D.states h.last D.steps in
-      let low = h.division.low in
-      let sugar = h.sugar in
-      record {
-        row = subst₂ (IsRow F N) (sym h.polynomial) (sym h.row)
-            (IsRow-remainder L R G divisors.polynomials divisors.nonzero {h = sugared m} H D A (map (λ b. b.row.items) before) (traced-AreRows L before traced) t.row);
-        within = subst₂ (λ n row. All (DegreeAtMost n) row) (sym h.sugar) (sym h.row)
-            (DegreeAtMost-subtracted L h.last.sugar h.last.quotients before m.row.items Q inside.quotients traced
-            (All-weaker (DegreeAtMost m.sugar) (DegreeAtMost h.last.sugar) (λ f b. DegreeAtMost-more more b) m.row.items t.within));
-        bounded = subst₂ DegreeAtMost (sym h.sugar) (sym h.polynomial) inside.remainder;
-        low = omega (arith, sugar, low);
-      }
-
   module _ {members : List (Member K O)} (run : AreMembersOfRun F key members) where
     -- In each state the replaced members divide.
     pub IsReplacing-AreDivisors : {r : Replacing} → IsReplacing F key (sugared_members members) r → AreDivisors F r.replaced
@@ -123,21 +92,25 @@ module _ {K O : Type 0} {F : Field} (L : IsField F) {key : List ℕ → List ℕ
           ArePolynomials-head (IsReplacing-rest_polynomials R L run.given run.run
           (subst (λ G. IsReplacing F key G (record { replaced = sugared_members before; rest = sugared m ∷ sugared_members rest })) (sym run.are) h.replacing))
 
-      next-traced : {N : List Polynomial} → All (IsTraced F N) members → IsTraced F N m
-      next-traced {N} all = All-contains (IsTraced F N) members m all (All-head (Contains members) m rest h.among)
+      own : (P : Member K O → Type 0) → All P members → P m
+      own P all = All-contains P members m all (All-head (Contains members) m rest h.among)
 
-      pub IsReplaced-IsReady : IsReady F before m
+      at_place : All (λ x. (x.place < length members) × (member_at (sugared_members members) x.place ≡ sugared x)) members
+      at_place k d l =
+          let is = run.in_place.places k d l in
+          (omega (arith, is, l), ap (member_at (sugared_members members)) is ∙ member_at-sugared members k d l)
+
+      pub IsReplaced-IsReady : IsReady F members before m
       IsReplaced-IsReady =
-          let t = next-traced run.traced in
-          let earlier = h.traced run.list run.given run.traced in
+          let here = own (λ x. (x.place < length members) × (member_at (sugared_members members) x.place ≡ sugared x)) at_place in
+          let good = state-good L R run in
           record {
             divisors = IsReplacing-AreDivisors h.replacing;
             polynomial = next-polynomial;
-            rows = All-weaker (IsTraced F run.list) (λ b. IsRowWithin F b.sugar (length m.row.items) b.row.items)
-                (λ b own. record { polynomials = own.row.polynomials; long = own.row.long ∙ sym t.row.long; within = own.within }) before earlier;
-            bound = t.bounded;
-            low = t.low;
-            row = t.row.polynomials;
+            bound = own (λ x. DegreeAtMost x.sugar x.polynomial) (All-map_back (λ g. DegreeAtMost g.sugar g.polynomial) sugared members good.within);
+            low = own (λ x. x.sugar ≤ degree_limit) run.in_place.low;
+            place = here.0;
+            at_place = here.1;
           }
 
       -- One member more.
@@ -147,7 +120,35 @@ module _ {K O : Type 0} {F : Field} (L : IsField F) {key : List ℕ → List ℕ
           states = h.replacing.states ++ (record { replaced = sugared_members (before ++ (next ∷ [])); rest = sugared_members rest } ∷ []);
           steps = StepsTo-more (IsReplacement F key) h.replacing.states _ _ _ h.replacing.steps (replacement-is F key before m next (sugared_members rest) one);
         };
-        traced = λ N A all. All-push (IsTraced F N) before next (h.traced N A all)
-            (IsTraced-replacement A before (IsReplacing-AreDivisors h.replacing) (h.traced N A all) m next next-polynomial (next-traced all) one);
         among = All-tail (Contains members) m rest h.among;
       }
+
+-- The members that are replaced so far are recorded after those of the run.
+pub record AreRecorded {K O : Type 0} (F : Field) (members before : List (Member K O)) (from : ℕ) (start now : History K O) : Type 0 where
+  pub from_is : from ≡ length members
+  pub kept : now.is_kept ≡ start.is_kept
+  pub long : start.is_kept ≡ true → length now.makings.items ≡ from + length before
+  pub history : (N : List Polynomial) → IsHistoryOf F N (sugared_members members) start → IsHistoryOf F N (sugared_members members ++ sugared_members before) now
+
+module _ {K O : Type 0} {F : Field} (members : List (Member K O)) (start : History K O) where
+  pub AreRecorded-start : (from : ℕ) → from ≡ length members → (start.is_kept ≡ true → length start.makings.items ≡ length members) → AreRecorded F members [] from start start
+  AreRecorded-start from e long = record {
+    from_is = e;
+    kept = refl;
+    long = λ was. long was ∙ omega (arith, e);
+    history = λ N own. subst (λ G. IsHistoryOf F N G start) (sym (append-nil (sugared_members members))) own;
+  }
+
+  pub AreRecorded-more : (before : List (Member K O)) (from : ℕ) (now next : History K O) (m : Member K O) (new : List (Member K O)) → HasRecordedMember F (sugared_members members ++ sugared_members before) (sugared m) now next
+      → new ≡ before ++ (m ∷ []) → AreRecorded F members before from start now → AreRecorded F members new from start next
+  AreRecorded-more before from now next m new one e h = subst (λ b. AreRecorded F members b from start next) (sym e) (record {
+    from_is = h.from_is;
+    kept = one.kept ∙ h.kept;
+    long = λ was.
+        let making = one.making (h.kept ∙ was) in
+        let long = h.long was in
+        ap length making.1 ∙ omega (arith, long, length-append now.makings.items (making.0 ∷ []), length-append before (m ∷ []));
+    history = λ N own.
+        subst (λ G. IsHistoryOf F N G next) (append_assoc (sugared_members members) (sugared_members before) (sugared m ∷ []) ∙ ap (λ G. sugared_members members ++ G) (sym (map-append sugared before (m ∷ []))))
+        (IsHistoryOf-push (sugared_members members ++ sugared_members before) (sugared m) now next one (h.history N own));
+  })

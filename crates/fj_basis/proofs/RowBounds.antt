@@ -1,24 +1,21 @@
 -- Bounds of the totals of the terms in rows of cofactors.
-use Rattle.std.proofs.Common.{◌≡◌, ◌⊎◌, Bool, true, false, cond, ℕ, suc, ◌+◌, ◌<◌, ◌≤◌, Option, Some, None, List, [], ◌∷◌, length, map, get_or, All, refl, sym, ap, ap₂, ◌∙◌, subst, arith, eq-zero-or-pos, ⊎_elim, inl, inr}
+use Rattle.std.proofs.Common.{◌≡◌, ◌⊎◌, Bool, true, false, cond, ℕ, ◌+◌, ◌<◌, ◌≤◌, Option, Some, None, List, [], ◌∷◌, All, refl, sym, ap, ap₂, ◌∙◌, subst, arith, eq-zero-or-pos, ⊎_elim, inl, inr}
 use Rattle.std.specs.FinMap.{empty}
 use Rattle.std.proofs.lemmas.List.Elements.{All-cons, All-head, All-tail}
 use Rattle.fj_coeff.specs.Field.{Field, IsField}
 use Rattle.fj_theory.proofs.OrderedPolynomials.{exponents_of}
 use Rattle.fj_theory.specs.Exponents.{total}
-use Rattle.fj_theory.specs.Polynomial.{Polynomial, IsPolynomial, coefficient, degree, negation, product, sum, term}
+use Rattle.fj_theory.specs.Polynomial.{Polynomial, IsPolynomial, coefficient, degree, product, sum, term}
 use Rattle.fj_theory.specs.Ideal.{ArePolynomials}
-use Rattle.fj_groebner.specs.Rows.{add_multiple, add_multiples, AreRows}
-use Rattle.fj_groebner.specs.Division.{DegreeAtMost, member_at, polynomials_of}
+use Rattle.fj_groebner.specs.Rows.{add_multiple}
+use Rattle.fj_groebner.specs.Division.{DegreeAtMost}
 use Rattle.fj_theory.proofs.Degree.{degree-product, degree_attained, degree_bounds, empty_from_degree}
 use Rattle.fj_theory.proofs.Field.{zero_below}
 use Rattle.fj_theory.proofs.IdealBridge.{over, ArePolynomials-head, ArePolynomials-tail}
 use Rattle.fj_theory.proofs.FormalSum.{same, same_true}
 use Rattle.fj_theory.proofs.Polynomial.{coefficient-empty, coefficient-sum, coefficient-term}
-use Rattle.fj_theory.proofs.PolynomialRing.{IsPolynomial-negation}
 use Rattle.fj_theory.proofs.Product.{IsPolynomial-product}
-use Rattle.fj_basis.specs.declared.members.Member.{Member}
-use Rattle.fj_basis.specs.Members.{sugared_members, IsTraced}
-use Rattle.fj_basis.proofs.Rows.{times_empty, empty_times, negation-positive}
+use Rattle.fj_basis.proofs.Rows.{times_empty, empty_times}
 
 pub term-positive : (c : ℕ) (a b : List ℕ) → 0 < coefficient (term c a) b → b ≡ a
 term-positive c a b p = by (same b a) refl
@@ -26,9 +23,6 @@ term-positive c a b p = by (same b a) refl
     by : (t : Bool) → same b a ≡ t → b ≡ a
     by true e = same_true b a e
     by false e = let none = coefficient-term c a b ∙ ap (λ t. cond t c 0) e in absurd (omega (arith, none, p))
-
-pub DegreeAtMost-more : {m n : ℕ} {f : Polynomial} → m ≤ n → DegreeAtMost m f → DegreeAtMost n f
-DegreeAtMost-more le b = record { within = λ a p. let own = b.within a p in omega (arith, own, le) }
 
 pub DegreeAtMost-empty : (n : ℕ) → DegreeAtMost n empty
 DegreeAtMost-empty n = record { within = λ a p. let none = coefficient-empty a in absurd (omega (arith, none, p)) }
@@ -81,25 +75,3 @@ module _ {F : Field} (L : IsField F) where
       All-cons (DegreeAtMost n) (sum F x (product F f y)) (add_multiple F f xs ys)
       (DegreeAtMost-sum n (All-head (DegreeAtMost n) x xs A) (DegreeAtMost-product P (ArePolynomials-head Q) m n low (All-head (DegreeAtMost m) y ys B)))
       (DegreeAtMost-add_multiple P m n low xs ys (ArePolynomials-tail Q) (All-tail (DegreeAtMost n) x xs A) (All-tail (DegreeAtMost m) y ys B))
-
-  module _ {K R : Type 0} {N : List Polynomial} where
-    -- A row with the members' cofactors times quotients subtracted.
-    pub DegreeAtMost-subtracted : (n : ℕ) (qs : List Polynomial) (members : List (Member K R)) (first : List Polynomial) → ArePolynomials F qs
-        → ((k : ℕ) → k < length qs → (a : List ℕ) → 0 < coefficient (get_or qs k empty) a → total a + (member_at (sugared_members members) k).sugar ≤ n)
-        → All (IsTraced F N) members → All (DegreeAtMost n) first
-        → All (DegreeAtMost n) (add_multiples F (map (negation F) qs) (map (λ m. m.row.items) members) first)
-    unfolding add_multiples member_at
-    DegreeAtMost-subtracted n [] members first Q within all A = A
-    DegreeAtMost-subtracted n (q ∷ qs) [] first Q within all A = A
-    DegreeAtMost-subtracted n (q ∷ qs) (m ∷ members) first Q within all A =
-        let t = All-head (IsTraced F N) m members all in
-        DegreeAtMost-subtracted n qs members (add_multiple F (negation F q) first m.row.items) (ArePolynomials-tail Q) (λ k l a p. within (suc k) (omega (arith, l)) a p)
-        (All-tail (IsTraced F N) m members all)
-        (DegreeAtMost-add_multiple (IsPolynomial-negation L (ArePolynomials-head Q)) m.sugar n (λ a p. within 0 (omega arith) a (negation-positive L q a p)) first m.row.items
-        t.row.polynomials A t.within)
-
-    -- The table of the members' cofactors.
-    pub traced-AreRows : (members : List (Member K R)) → All (IsTraced F N) members → AreRows F N (polynomials_of (sugared_members members)) (map (λ m. m.row.items) members)
-    unfolding AreRows
-    traced-AreRows [] all = tt
-    traced-AreRows (m ∷ members) all = ((All-head (IsTraced F N) m members all).row, traced-AreRows members (All-tail (IsTraced F N) m members all))

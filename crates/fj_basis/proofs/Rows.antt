@@ -1,21 +1,19 @@
 -- Rows of cofactors entry by entry, as the code changes them.
-use Rattle.std.proofs.Common.{◌≡◌, ℕ, zero, suc, ◌+◌, ◌^◌, ◌<◌, ◌≤◌, Option, Some, None, List, [], ◌∷◌, ◌++◌, nat_cmp, length, map, take, get_or, set, refl, sym, ap, ap₂, ◌∙◌, arith, add-one, eq-zero-or-pos, ⊎_elim}
+use Rattle.std.proofs.Common.{◌≡◌, ℕ, zero, suc, ◌+◌, ◌^◌, ◌<◌, ◌≤◌, Option, Some, None, List, [], ◌∷◌, ◌++◌, nat_cmp, length, map, get_or, set, refl, sym, ap, ap₂, ◌∙◌, arith, add-one, eq-zero-or-pos, ⊎_elim}
 use Rattle.std.specs.List.{flat_map}
 use Rattle.std.specs.FinMap.{empty, entries, len-entries, len-empty}
 use Rattle.std.specs.Cmp.Lexicographic.{slice_cmp}
-use Rattle.std.proofs.lemmas.List.{get_or_default, get_or-map, length-map, nil_from_length}
+use Rattle.std.proofs.lemmas.List.{get_or_default, nil_from_length}
 use Rattle.fj_coeff.specs.Field.{Field, IsField}
 use Rattle.fj_theory.specs.Exponents.{origin, plus, total}
 use Rattle.fj_theory.specs.Polynomial.{Polynomial, IsPolynomial, coefficient, degree, sum, product, negation, term, with_coefficients, support}
 use Rattle.fj_theory.specs.Ideal.{ArePolynomials}
-use Rattle.fj_groebner.specs.Rows.{add_multiple, add_multiples}
+use Rattle.fj_groebner.specs.Rows.{add_multiple}
 use Rattle.fj_groebner.specs.Division.{DegreeAtMost}
 use Rattle.fj_theory.proofs.Exponents.{IsExponents-origin}
 use Rattle.fj_theory.proofs.Field.{one_below}
-use Rattle.fj_theory.proofs.Polynomial.{IsPolynomial-sum}
-use Rattle.fj_theory.proofs.Product.{IsPolynomial-product}
 use Rattle.fj_theory.proofs.PolynomialRing.{sum_empty, product_comm, product_one, coefficient-negation, neg_zero_rank}
-use Rattle.fj_theory.proofs.IdealBridge.{IsPolynomial-one, ArePolynomials-cons, ArePolynomials-head, ArePolynomials-tail}
+use Rattle.fj_theory.proofs.IdealBridge.{IsPolynomial-one, ArePolynomials-head, ArePolynomials-tail}
 use Rattle.fj_theory.proofs.Degree.{degree-product, degree_attained}
 use Rattle.fj_poly.specs.Limit.{IsHigh}
 use Rattle.fj_poly.proofs.Limits.{low_degree, low_product_none, low_product_none_right}
@@ -99,22 +97,6 @@ module _ {F : Field} (L : IsField F) where
       ap (λ zs. sum F x (product F f y) ∷ zs) (added-zero f n xs ys (omega (arith, l)) (omega (arith, e)) (ArePolynomials-tail A) z ∙ ap (λ m. added F f m xs ys) (add-one n))
       ∙ ap (λ m. added F f m (x ∷ xs) (y ∷ ys)) (sym (add-one (suc n)))
 
-  -- Zero times a row.
-  add_empty : (xs ys : List Polynomial) → ArePolynomials F xs → add_multiple F empty xs ys ≡ xs
-  unfolding add_multiple
-  add_empty [] ys A = refl
-  add_empty (x ∷ xs) [] A = refl
-  add_empty (x ∷ xs) (y ∷ ys) A = ap₂ ◌∷◌ (ap (sum F x) (empty_times F y) ∙ sum_empty L (ArePolynomials-head A)) (add_empty xs ys (ArePolynomials-tail A))
-
-  pub ArePolynomials-add_multiple : {f : Polynomial} → IsPolynomial F f → (xs ys : List Polynomial) → ArePolynomials F xs → ArePolynomials F ys
-      → ArePolynomials F (add_multiple F f xs ys)
-  unfolding add_multiple
-  ArePolynomials-add_multiple P [] ys A B = A
-  ArePolynomials-add_multiple P (x ∷ xs) [] A B = A
-  ArePolynomials-add_multiple P (x ∷ xs) (y ∷ ys) A B =
-      ArePolynomials-cons (IsPolynomial-sum L (ArePolynomials-head A) (IsPolynomial-product L P (ArePolynomials-head B)))
-      (ArePolynomials-add_multiple P xs ys (ArePolynomials-tail A) (ArePolynomials-tail B))
-
   -- The negative is the product with the negative of one.
   pub scale-negation : {f : Polynomial} → IsPolynomial F f → product F (term (F.neg 1) origin) f ≡ negation F f
   scale-negation P = product_term-negation L P 1 (one_below L) IsExponents-origin ∙ ap (negation F) (product_comm L (IsPolynomial-one L) P ∙ product_one L P)
@@ -140,40 +122,6 @@ module _ {F : Field} (L : IsField F) where
   negation-positive f a p =
       ⊎_elim (λ z. let none = coefficient-negation L f a ∙ ap F.neg z ∙ neg_zero_rank L in absurd (omega (arith, none, p))) (λ q. q) (eq-zero-or-pos (coefficient f a))
 
-  negation-empty : negation F empty ≡ empty
+  pub negation-empty : negation F empty ≡ empty
   unfolding negation
   negation-empty = without _ _ support_empty
-
--- The sum of rows, one row more.
-add_multiples-more : (F : Field) (n : ℕ) (fs : List Polynomial) (rows : List (List Polynomial)) (first : List Polynomial) → n < length fs → length rows ≡ length fs
-    → add_multiples F (take (n + 1) fs) rows first ≡ add_multiple F (get_or fs n empty) (add_multiples F (take n fs) rows first) (get_or rows n [])
-unfolding add_multiples
-add_multiples-more F n [] rows first l e = absurd (omega (arith, l))
-add_multiples-more F n (f ∷ fs) [] first l e = absurd (omega (arith, e))
-add_multiples-more F zero (f ∷ fs) (row ∷ rows) first l e = refl
-add_multiples-more F (suc n) (f ∷ fs) (row ∷ rows) first l e =
-    ap (λ m. add_multiples F (take m (f ∷ fs)) (row ∷ rows) first) (add-one (suc n))
-    ∙ sym (ap (λ m. add_multiples F (take m fs) rows (add_multiple F f first row)) (add-one n))
-    ∙ add_multiples-more F n fs rows (add_multiple F f first row) (omega (arith, l)) (omega (arith, e))
-
-pub add_multiples-none : (F : Field) (rows : List (List Polynomial)) (first : List Polynomial) → add_multiples F [] rows first ≡ first
-unfolding add_multiples
-add_multiples-none F rows first = refl
-
-module _ {F : Field} (L : IsField F) (qs : List Polynomial) (rows : List (List Polynomial)) (first : List Polynomial) where
-  -- One row less its multiple.
-  pub subtracted-more : (n : ℕ) (now : List Polynomial) (q : Polynomial) (row : List Polynomial) → n < length qs → length rows ≡ length qs → q ≡ get_or qs n q → row ≡ get_or rows n []
-      → now ≡ add_multiples F (take n (map (negation F) qs)) rows first
-      → add_multiple F (negation F q) now row ≡ add_multiples F (take (n + 1) (map (negation F) qs)) rows first
-  subtracted-more n now q row l e at_q at_row is =
-      let long = length-map qs (negation F) in
-      let factor : negation F q ≡ get_or (map (negation F) qs) n empty = ap (negation F) at_q ∙ sym (get_or-map (negation F) qs n q empty l) in
-      ap₂ (λ f xs. add_multiple F f xs row) factor is ∙ ap (add_multiple F (get_or (map (negation F) qs) n empty) (add_multiples F (take n (map (negation F) qs)) rows first)) at_row
-      ∙ sym (add_multiples-more F n (map (negation F) qs) rows first (omega (arith, l, long)) (omega (arith, e, long)))
-
-  pub subtracted-zero : (n : ℕ) (now : List Polynomial) (q : Polynomial) → n < length qs → length rows ≡ length qs → q ≡ get_or qs n q → q ≡ empty → ArePolynomials F now
-      → now ≡ add_multiples F (take n (map (negation F) qs)) rows first
-      → now ≡ add_multiples F (take (n + 1) (map (negation F) qs)) rows first
-  subtracted-zero n now q l e at_q z A is =
-      sym (add_empty L now (get_or rows n []) A) ∙ ap (λ f. add_multiple F f now (get_or rows n [])) (sym (ap (negation F) z ∙ negation-empty L))
-      ∙ subtracted-more n now q (get_or rows n []) l e at_q refl is

@@ -1,5 +1,5 @@
 -- Which pairs the chain criterion spares, by the leads and the index of the pending pairs.
-use Rattle.std.proofs.Common.{◌≡◌, ◌≢◌, ◌⊎◌, inl, inr, ℕ, zero, suc, ◌+◌, ◌<◌, ◌≤◌, max, Bool, true, false, IsTrue, Some, Less, Greater, List, [], ◌∷◌, ◌++◌, length, get_or, All, Contains, nat_cmp, refl, sym, ap, ap₂, ◌∙◌, subst, subst₂, arith, true≢false}
+use Rattle.std.proofs.Common.{◌≡◌, ◌≢◌, ◌⊎◌, inl, inr, ℕ, zero, suc, ◌<◌, max, Bool, false, IsTrue, Some, Less, Greater, List, [], ◌∷◌, ◌++◌, length, get_or, All, Contains, nat_cmp, refl, sym, ap, ap₂, ◌∙◌, subst, subst₂, arith, true≢false}
 use Rattle.std.specs.FinMap.{empty}
 use Rattle.std.specs.Prelude.{slice_get, unwrap_or}
 use Rattle.std.specs.Cmp.Lexicographic.{slice_cmp}

@@ -1,5 +1,5 @@
 -- The start of a run, a given polynomial at a time.
-use Rattle.std.proofs.Common.{◌≡◌, ◌≢◌, ℕ, ◌+◌, ◌<◌, ◌≤◌, ◌==◌, not, Bool, true, false, cond, List, [], ◌∷◌, ◌++◌, length, length-append, map, filter, take, get_or, set, replicate, All, Contains, refl, sym, ap, ap₂, ◌∙◌, subst, subst₂, arith, add-one, eq-eqb}
+use Rattle.std.proofs.Common.{◌≡◌, ◌≢◌, ℕ, ◌+◌, ◌<◌, ◌≤◌, ◌==◌, not, Bool, true, false, cond, List, [], ◌∷◌, ◌++◌, length, length-append, map, filter, take, get_or, All, Contains, refl, sym, ap, ap₂, ◌∙◌, subst, subst₂, arith, add-one, eq-eqb}
 use Rattle.std.specs.List.{flat_map, range_with_len}
 use Rattle.std.specs.FinMap.{empty, len, len-empty, empty_of_len}
 use Rattle.std.specs.Cmp.Lexicographic.{slice_cmp}
@@ -7,42 +7,39 @@ use Rattle.std.specs.Ordering.{nat_cmp}
 use Rattle.std.proofs.Math.Seq.{take-suc}
 use Rattle.std.proofs.lemmas.Bool.{ne_eqb}
 use Rattle.std.proofs.lemmas.Grind.{flat_map-append}
-use Rattle.std.proofs.lemmas.List.{append-nil, length-map, map-append, map-id, take_all}
-use Rattle.std.proofs.lemmas.List.Elements.{All-nil, All-replicate, All-set, filter-append}
+use Rattle.std.proofs.lemmas.List.{append-nil, map-append, map-id, take_all}
+use Rattle.std.proofs.lemmas.List.Elements.{All-nil, filter-append}
 use Rattle.std.proofs.lemmas.List.FromFn.{map-range_with_len_more}
 use Rattle.fj_algebra.proofs.Pairs.{contains_nil}
 use Rattle.fj_coeff.specs.Field.{Field, IsField}
 use Rattle.fj_theory.specs.Exponents.{origin}
 use Rattle.fj_theory.specs.MonomialOrder.{IsMonomialOrder}
-use Rattle.fj_theory.specs.Polynomial.{Polynomial, term}
+use Rattle.fj_theory.specs.Polynomial.{IsPolynomial, Polynomial, product, term}
 use Rattle.fj_theory.specs.Ideal.{ArePolynomials}
 use Rattle.fj_theory.specs.Lead.{lead_coefficient, lead_exponents, made_monic}
-use Rattle.fj_groebner.specs.Rows.{IsRow}
 use Rattle.fj_groebner.specs.Division.{DegreeAtMost, Sugared, degree_limit}
 use Rattle.fj_groebner.specs.Run as definition
 use Rattle.fj_groebner.specs.Run.{AreRemovals, append_member, first_members, given, monic_member, pairs_with, run_start}
-use Rattle.fj_theory.proofs.Exponents.{IsExponents-origin, total_origin}
-use Rattle.fj_theory.proofs.Field.{zero_below}
-use Rattle.fj_theory.proofs.Lead.{lead_coefficient-below, lead_coefficient-nonzero}
-use Rattle.fj_theory.proofs.Polynomial.{IsPolynomial-term}
-use Rattle.fj_groebner.proofs.Rows.{IsRow-one}
 use Rattle.fj_groebner.proofs.Run.{of_all_pairs}
-use Rattle.fj_groebner.proofs.Sugar.{DegreeAtMost-made_monic, given-DegreeAtMost}
 use Rattle.fj_basis.specs.declared.members.Member.{Member}
 use Rattle.fj_basis.specs.declared.run.Run.{Run}
-use Rattle.fj_basis.specs.Members.{IsTraced, sugared, sugared_members}
+use Rattle.fj_basis.specs.declared.history.Making.{Making}
+use Rattle.fj_basis.specs.declared.history.Source.TheVariants.{Given}
+use Rattle.fj_basis.specs.History.{AreMade, IsHistoryOf, IsMaking, IsSourceOf}
+use Rattle.fj_basis.specs.Members.{AreInPlace, sugared, sugared_members}
 use Rattle.fj_basis.specs.Pending.{HasPairsWith}
 use Rattle.fj_basis.specs.State.{IsAfter, IsPendingOf}
+use Rattle.fj_basis.proofs.Combined.{AreMade-none, HasRecordedOver, IsHistoryOf-over, in_place-none, in_place-push}
 use Rattle.fj_basis.proofs.Gathered.{gathered_all}
-use Rattle.fj_basis.proofs.NextMember.{made_monic-nonzero}
+use Rattle.fj_basis.proofs.NextMember.{IsPolynomial-constant, constant-degree, made_monic-nonzero}
 use Rattle.fj_basis.proofs.PendingPairs.{IsPendingOf-append}
-use Rattle.fj_basis.proofs.RowBounds.{DegreeAtMost-empty, DegreeAtMost-term}
 
--- The start of the run on the first n polynomials of L, with cofactors over all of L.
+-- The start of the run on the first n polynomials of L.
 pub record IsStarted {K R : Type 0} (F : Field) (key : List ℕ → List ℕ) (L : List Polynomial) (n : ℕ) (s : Run K R) : Type 0 where
   pub members : (run_start F key (take n L)).members ≡ sugared_members s.members.items
   pub pending : IsPendingOf key (run_start F key (take n L)) s.pending
-  pub traced : All (IsTraced F L) s.members.items
+  pub in_place : AreInPlace s.members.items
+  pub history : IsHistoryOf F L (sugared_members s.members.items) s.history
   pub nonzero : All (λ m. m.polynomial ≢ empty) s.members.items
 
 range-more : (n : ℕ) → range_with_len 0 (n + 1) ≡ range_with_len 0 n ++ (n ∷ [])
@@ -113,11 +110,12 @@ one-more L n l = ap (λ m. take m L) (add-one n) ∙ take-suc L n empty l
 
 module _ {K R : Type 0} {F : Field} {key : List ℕ → List ℕ} (L : List Polynomial) where
   -- Nothing is read.
-  pub started-none : (s : Run K R) → s.members.items ≡ [] → s.pending.leads ≡ [] → s.pending.pairs ≡ [] → IsStarted F key L 0 s
-  started-none s members leads pairs = record {
+  pub started-none : (s : Run K R) → s.members.items ≡ [] → s.pending.leads ≡ [] → s.pending.pairs ≡ [] → s.history.makings.items ≡ [] → IsStarted F key L 0 s
+  started-none s members leads pairs makings = record {
     members = none-members F key ∙ ap sugared_members (sym members);
     pending = subst (IsPendingOf key (run_start F key [])) (λ i. record { leads = sym leads i; pairs = sym pairs i }) (none-pending F key);
-    traced = subst (All (IsTraced F L)) (sym members) (All-nil (IsTraced F L));
+    in_place = subst AreInPlace (sym members) in_place-none;
+    history = record { made = λ kept. subst₂ (AreMade F L) (ap sugared_members (sym members)) (sym makings) AreMade-none };
     nonzero = subst (All (λ (m : Member K R). m.polynomial ≢ empty)) (sym members) (All-nil (λ m. m.polynomial ≢ empty));
   }
 
@@ -128,17 +126,19 @@ module _ {K R : Type 0} {F : Field} {key : List ℕ → List ℕ} (L : List Poly
       record {
         members = sym (ap (λ t. t.members) same) ∙ before.members;
         pending = subst (λ t. IsPendingOf key t s.pending) same before.pending;
-        traced = before.traced;
+        in_place = before.in_place;
+        history = before.history;
         nonzero = before.nonzero;
       }
 
   -- One that isn't.
-  pub started-more : (n : ℕ) (s new : Run K R) (m : Member K R) → n < length L → get_or L n empty ≢ empty → sugared m ≡ monic_member F key (given (get_or L n empty)) → IsTraced F L m → m.polynomial ≢ empty
+  pub started-more : (n : ℕ) (s new : Run K R) (m : Member K R) → n < length L → get_or L n empty ≢ empty → sugared m ≡ monic_member F key (given (get_or L n empty)) → m.place ≡ length s.members.items → m.sugar ≤ degree_limit
+      → HasRecordedOver F L (sugared_members s.members.items) (sugared m) s.history new.history → m.polynomial ≢ empty
       → new.members.items ≡ s.members.items ++ (m ∷ []) → new.pending.leads ≡ s.pending.leads ++ (lead_exponents key m.polynomial ∷ [])
       → HasPairsWith new.pending.leads (length s.pending.leads) s.pending.pairs new.pending.pairs
       → IsStarted F key L n s → IsStarted F key L (n + 1) new
   unfolding append_member
-  started-more n s new m l some is traced nonzero whole grown pairs before =
+  started-more n s new m l some is place low recorded nonzero whole grown pairs before =
       let old = run_start F key (take n L) in
       let g = monic_member F key (given (get_or L n empty)) in
       let same : run_start F key (take (n + 1) L) ≡ append_member old g = ap (run_start F key) (one-more L n l) ∙ start-more F key (take n L) (get_or L n empty) some in
@@ -149,15 +149,17 @@ module _ {K R : Type 0} {F : Field} {key : List ℕ → List ℕ} (L : List Poly
         pending = subst (λ t. IsPendingOf key t new.pending) (sym same)
             (IsPendingOf-append key old g s.pending new.pending (start-places F key (take n L)) before.pending
             (grown ∙ ap (λ h. s.pending.leads ++ (lead_exponents key h.polynomial ∷ [])) is) pairs);
-        traced = gathered_all (IsTraced F L) s.members.items new.members.items m before.traced traced whole;
+        in_place = subst AreInPlace (sym whole) (in_place-push s.members.items m before.in_place place low);
+        history = subst (λ G. IsHistoryOf F L G new.history) (sym (ap sugared_members whole ∙ map-append sugared s.members.items (m ∷ [])))
+            (IsHistoryOf-over (sugared_members s.members.items) (sugared m) s.history new.history recorded before.history);
         nonzero = gathered_all (λ (g : Member K R). g.polynomial ≢ empty) s.members.items new.members.items m before.nonzero nonzero whole;
       }
 
   -- All are read, and the removals of the start are made.
-  pub started-all : ArePolynomials F L → (n : ℕ) (s new : Run K R) → length L ≤ n → IsStarted F key L n s → new.members.items ≡ s.members.items
+  pub started-all : ArePolynomials F L → (n : ℕ) (s new : Run K R) → length L ≤ n → IsStarted F key L n s → new.members.items ≡ s.members.items → new.history ≡ s.history
       → ((t : definition.Run) → IsPendingOf key t s.pending → (u : definition.Run) × AreRemovals key t u × (u.members ≡ t.members) × IsPendingOf key u new.pending)
       → IsAfter F key L 0 new
-  started-all A n s new l before same removed =
+  started-all A n s new l before same kept removed =
       let whole = ap (run_start F key) (take_all n L l) in
       let end = removed (run_start F key L) (subst (λ t. IsPendingOf key t s.pending) whole before.pending) in
       record {
@@ -167,7 +169,8 @@ module _ {K R : Type 0} {F : Field} {key : List ℕ → List ℕ} (L : List Poly
         members = end.2 ∙ ap (λ t. t.members) (sym whole) ∙ before.members ∙ ap sugared_members (sym same);
         leads = end.3.leads;
         pending = end.3.pairs;
-        traced = subst (All (IsTraced F L)) (sym same) before.traced;
+        in_place = subst AreInPlace (sym same) before.in_place;
+        history = subst₂ (λ ms h. IsHistoryOf F L (sugared_members ms) h) (sym same) (sym kept) before.history;
       }
 
   -- A first member isn't zero.
@@ -176,24 +179,18 @@ module _ {K R : Type 0} {F : Field} {key : List ℕ → List ℕ} (L : List Poly
   unfolding given monic_member
   first-nonzero laws O A j l m some is e = made_monic-nonzero laws O (A.each j empty l) some (sym (ap (λ g. g.polynomial) is) ∙ e)
 
-  -- A first member is traced.
-  pub first-IsTraced : (laws : IsField F) → IsMonomialOrder key → ArePolynomials F L → (j : ℕ) → j < length L → (m : Member K R) → get_or L j empty ≢ empty
+  -- A first member is made so.
+  pub first-IsMaking : (laws : IsField F) → IsMonomialOrder key → ArePolynomials F L → (j : ℕ) → j < length L → (G : List Sugared) (m : Member K R) → get_or L j empty ≢ empty
       → sugared m ≡ monic_member F key (given (get_or L j empty)) → m.sugar ≤ degree_limit
-      → m.row.items ≡ set (replicate (length L) empty) j (term (F.inverse (lead_coefficient key (get_or L j empty))) origin) → IsTraced F L m
+      → (making : Making K R) → making.constant ≡ term (F.inverse (lead_coefficient key (get_or L j empty))) origin → making.source ≡ Given j → IsMaking F L G (sugared m) making
   unfolding given monic_member made_monic
-  first-IsTraced laws O A j l m some is low rows =
+  first-IsMaking laws O A j l G m some is low making constant source =
       let f = get_or L j empty in
-      let P = A.each j empty l in
-      let c = F.inverse (lead_coefficient key f) in
-      let small = laws.inverse_below _ (lead_coefficient-nonzero O P some) (lead_coefficient-below O P (zero_below laws)) in
-      let C = IsPolynomial-term c small IsExponents-origin in
-      let polynomial = ap (λ g. g.polynomial) is in
-      let sugar = ap (λ g. g.sugar) is in
       record {
-        row = subst₂ (IsRow F L) (sym polynomial) (sym rows) (IsRow-one laws C L j A l);
-        within = subst (All (DegreeAtMost m.sugar)) (sym rows)
-            (All-set (DegreeAtMost m.sugar) (replicate (length L) empty) j (term c origin) (DegreeAtMost-term m.sugar c origin (omega (arith, total_origin)))
-            (All-replicate (DegreeAtMost m.sugar) (length L) empty (DegreeAtMost-empty m.sugar)));
-        bounded = subst₂ DegreeAtMost (sym sugar) (sym polynomial) (DegreeAtMost-made_monic laws O P (given f).sugar some (given-DegreeAtMost laws P));
+        made_of = f;
+        source = subst (IsSourceOf F L G m.sugar f) (sym source) (l, refl);
+        constant = subst (IsPolynomial F) (sym constant) (IsPolynomial-constant laws O (A.each j empty l) some);
+        degree = subst (DegreeAtMost 0) (sym constant) (constant-degree (F.inverse (lead_coefficient key f)));
+        is = ap (λ g. g.polynomial) is ∙ ap (λ c. product F c f) (sym constant);
         low = low;
       }

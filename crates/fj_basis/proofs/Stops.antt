@@ -1,10 +1,14 @@
 -- Faults of a run and of its finishing, handed on.
-use Rattle.std.proofs.Common.{◌≡◌, Result, Err, sym, ap, ◌∙◌, subst}
+use Rattle.std.proofs.Common.{◌≡◌, ℕ, List, Result, Err, sym, ap, ◌∙◌, subst}
+use Rattle.fj_coeff.specs.Field.{Field}
+use Rattle.fj_theory.specs.Polynomial.{Polynomial}
+use Rattle.fj_plain.specs.declared.order_name.OrderName.{OrderName}
 use Rattle.fj_poly.specs.declared.fault.PolyFault.{PolyFault}
 use Rattle.fj_poly.specs.declared.fault.PolyFault.TheVariants as product
 use Rattle.fj_basis.specs.declared.calculation.RunFault.{RunFault}
 use Rattle.fj_basis.specs.declared.calculation.RunFault.TheVariants as run
-use Rattle.fj_basis.specs.Outcome.{IsFaultOnlyWhere, IsHighOnlyWhere, run_fault}
+use Rattle.fj_basis.specs.declared.stop.Stop.{Stop}
+use Rattle.fj_basis.specs.Outcome.{IsFaultOnlyWhere, IsHighOnlyWhere, IsStopOf, IsStopWhere, run_fault}
 
 from_product : (T U P X Q : Type 0) (e : PolyFault) → (P → Q) → IsHighOnlyWhere {T = T} P (Err e) → IsFaultOnlyWhere {T = U} X Q (Err (run_fault e))
 from_product T U P X Q product.High f h = f h
@@ -28,3 +32,10 @@ only T U X Q run.Memory h = tt
 -- A fault of the run comes on as it is.
 pub fault_handed : (T U X Q : Type 0) (r : Result U RunFault) (d e : RunFault) → r ≡ Err d → d ≡ e → IsFaultOnlyWhere {T = T} X Q (Err e) → IsFaultOnlyWhere {T = U} X Q r
 fault_handed T U X Q r d e is same h = subst (IsFaultOnlyWhere {T = U} X Q) (sym (is ∙ ap (λ (x : RunFault). Err x) same)) (only T U X Q e h)
+
+-- A fault is told as the stop that comes exactly where one of two conditions holds that exclude each other.
+pub stop_told : (T U X Q : Type 0) (F : Field) (order : OrderName) (key : List ℕ → List ℕ) (L : List Polynomial) (fault : RunFault) (stop : Stop) → (X → Q → ⊥) → IsFaultOnlyWhere {T = T} X Q (Err fault)
+    → IsStopOf F order key L fault stop → IsStopWhere {T = U} F X Q order key L (Err stop)
+stop_told T U X Q F order key L run.Pairs stop apart f told = subst (λ (s : Stop). IsStopWhere {T = U} F X Q order key L (Err s)) (sym told.1) (f, λ q. apart f q, told.2)
+stop_told T U X Q F order key L run.High stop apart f told = subst (λ (s : Stop). IsStopWhere {T = U} F X Q order key L (Err s)) (sym told.1) (f, λ x. apart x f, told.2)
+stop_told T U X Q F order key L run.Memory stop apart f told = subst (λ (s : Stop). IsStopWhere {T = U} F X Q order key L (Err s)) (sym told) tt

@@ -22,27 +22,29 @@ use Rattle.fj_basis.specs.declared.members.Member.{Member}
 use Rattle.fj_basis.specs.declared.pairs.Pair.{Pair}
 use Rattle.fj_basis.specs.declared.run.Run.{Run}
 use Rattle.fj_basis.specs.Finished.{AreMembersOfRun}
-use Rattle.fj_basis.specs.Members.{IsTraced, sugared, sugared_members}
+use Rattle.fj_basis.specs.Members.{AreInPlace, sugared, sugared_members}
 use Rattle.fj_basis.specs.Pending.{HasPairsWith, PendingPairs}
+use Rattle.fj_basis.specs.History.{IsHistoryOf}
+use Rattle.fj_basis.specs.declared.history.History.{History}
 use Rattle.fj_basis.specs.State.{ArePending, IsAfter, IsNextMember, IsPairOf, IsPendingOf, IsTurned}
-use Rattle.fj_basis.proofs.Gathered.{gathered_all}
-use Rattle.fj_basis.proofs.Leading.{AreGood, IsRun-AreGood, nonzero_members, state-good}
-use Rattle.fj_basis.proofs.NextMember.{made_monic-nonzero, next-IsTraced}
+use Rattle.fj_basis.proofs.Combined.{IsHistoryOf-push, in_place-push}
+use Rattle.fj_basis.proofs.Leading.{nonzero_members, state-good}
+use Rattle.fj_basis.proofs.NextMember.{made_monic-nonzero}
 use Rattle.fj_basis.proofs.PendingPairs.{ArePending-drop, IsNext-first, IsPendingOf-append, order_of_pairs}
 use Rattle.fj_theory.proofs.Steps.{StepsTo-more}
 
 -- The members of a state.
 pub members-of : {K R : Type 0} {F : Field} {key : List ℕ → List ℕ} {N : List Polynomial} {turns : ℕ} {s : Run K R} → IsAfter F key N turns s → AreMembersOfRun F key s.members.items
-members-of {N = N} {turns = turns} after = record { list = N; given = after.given; turns = turns; state = after.state; run = after.run; are = after.members; traced = after.traced }
+members-of {N = N} {turns = turns} after = record { list = N; given = after.given; turns = turns; state = after.state; run = after.run; are = after.members; in_place = after.in_place }
 
 module _ {K R : Type 0} {F : Field} (L : IsField F) {key : List ℕ → List ℕ} (O : IsMonomialOrder key) where
   pub after-nonzero : {N : List Polynomial} {turns : ℕ} {s : Run K R} → IsAfter F key N turns s → All (λ m. m.polynomial ≢ empty) s.members.items
   after-nonzero {s = s} after = nonzero_members s.members.items (state-good L O (members-of after)).nonzero
 
   -- The next member isn't zero.
-  pub next-nonzero : (members : List (Member K R)) → AreMembersOfRun F key members → (i j : ℕ) (m : Member K R) → IsNextMember F key members (i, j) (Some m) → m.polynomial ≢ empty
+  pub next-nonzero : (members : List (Member K R)) → AreMembersOfRun F key members → (i j : ℕ) (m : Member K R) (before new : History K R) → IsNextMember F key members (i, j) before new (Some m) → m.polynomial ≢ empty
   unfolding monic_member
-  next-nonzero members state i j m found e =
+  next-nonzero members state i j m before new found e =
       let good = state-good L O state in
       let P = IsDivision-remainder_polynomial O L (sugared_members members) good.polynomials good.nonzero (good.s_is i j) found.division.division in
       made_monic-nonzero L O P found.found.0 (sym (ap (λ g. g.polynomial) found.found.1) ∙ e)
@@ -57,10 +59,10 @@ IsRun-more {F} {key} {s = s} {t = t} r round = record {
 }
 
 -- The removals behind a turn.
-pub after-removals : {K R : Type 0} {F : Field} {key : List ℕ → List ℕ} {N : List Polynomial} {turns : ℕ} (old new : Run K R) → IsTurned F key N turns old → new.members.items ≡ old.members.items
+pub after-removals : {K R : Type 0} {F : Field} {key : List ℕ → List ℕ} {N : List Polynomial} {turns : ℕ} (old new : Run K R) → IsTurned F key N turns old → new.members.items ≡ old.members.items → new.history ≡ old.history
     → ((s : definition.Run) → IsPendingOf key s old.pending → (t : definition.Run) × AreRemovals key s t × (t.members ≡ s.members) × IsPendingOf key t new.pending)
     → IsAfter F key N (suc turns) new
-after-removals {F = F} {key = key} {N = N} old new turned same removed =
+after-removals {F = F} {key = key} {N = N} old new turned same kept removed =
     let end = removed turned.state turned.pending in
     record {
       given = turned.given;
@@ -69,7 +71,8 @@ after-removals {F = F} {key = key} {N = N} old new turned same removed =
       members = end.2 ∙ turned.members ∙ ap sugared_members (sym same);
       leads = end.3.leads;
       pending = end.3.pairs;
-      traced = subst (All (IsTraced F N)) (sym same) turned.traced;
+      in_place = subst AreInPlace (sym same) turned.in_place;
+      history = subst₂ (λ ms h. IsHistoryOf F N (sugared_members ms) h) (sym same) (sym kept) turned.history;
     }
 
 module _ {F : Field} (L : IsField F) {key : List ℕ → List ℕ} (O : IsMonomialOrder key) {N : List Polynomial} (A : ArePolynomials F N) {turns : ℕ} {s : definition.Run} (r : IsRun F key N turns s) where
@@ -110,9 +113,9 @@ module _ {K R : Type 0} {F : Field} (L : IsField F) {key : List ℕ → List ℕ
     left = record { leads = leads ∙ after.leads; pairs = ArePending-drop key s p rest.pairs pending above }
 
     -- A turn in which the pair is dropped.
-    pub after-dropped : (new : Run K R) → new.members.items ≡ items → new.pending ≡ rest → has_coprime_leads key (sugared_members items) (p.i, p.j) ≡ true → IsTurned F key N turns new
+    pub after-dropped : (new : Run K R) → new.members.items ≡ items → new.pending ≡ rest → new.history ≡ old.history → has_coprime_leads key (sugared_members items) (p.i, p.j) ≡ true → IsTurned F key N turns new
     unfolding drop_pair
-    after-dropped new same are coprime = record {
+    after-dropped new same are kept coprime = record {
       given = after.given;
       before = s;
       run = after.run;
@@ -120,7 +123,8 @@ module _ {K R : Type 0} {F : Field} (L : IsField F) {key : List ℕ → List ℕ
       turn = dropped (p.i, p.j) next (ap (λ G. has_coprime_leads key G (p.i, p.j)) after.members ∙ coprime) refl;
       members = after.members ∙ ap sugared_members (sym same);
       pending = subst (IsPendingOf key (drop_pair s (p.i, p.j))) (sym are) left;
-      traced = subst (All (IsTraced F N)) (sym same) after.traced;
+      in_place = subst AreInPlace (sym same) after.in_place;
+      history = subst₂ (λ ms h. IsHistoryOf F N (sugared_members ms) h) (sym same) (sym kept) after.history;
     }
 
     module _ (common : has_coprime_leads key (sugared_members items) (p.i, p.j) ≡ false) where
@@ -140,10 +144,11 @@ module _ {K R : Type 0} {F : Field} (L : IsField F) {key : List ℕ → List ℕ
       low-state {d} D = subst (λ G. IsLowDivision F key G (s_polynomial F key G (p.i, p.j)) d) (sym after.members) D
 
       -- A turn in which nothing remains.
-      pub after-empty : (new : Run K R) → new.members.items ≡ items → new.pending ≡ rest → IsNextMember F key items (p.i, p.j) None → IsTurned F key N turns new
+      pub after-empty : (new : Run K R) → new.members.items ≡ items → new.pending ≡ rest → IsNextMember F key items (p.i, p.j) old.history new.history None → IsTurned F key N turns new
       unfolding drop_pair treat_pair
       after-empty new same are found =
-          let none : (len found.last.remainder == 0) ≡ true = eq-eqb (len found.last.remainder) 0 (ap len found.found ∙ len-empty (slice_cmp nat_cmp) ℕ) in
+          let kept = found.found.1 in
+          let none : (len found.last.remainder == 0) ≡ true = eq-eqb (len found.last.remainder) 0 (ap len found.found.0 ∙ len-empty (slice_cmp nat_cmp) ℕ) in
           record {
             given = after.given;
             before = s;
@@ -153,21 +158,20 @@ module _ {K R : Type 0} {F : Field} (L : IsField F) {key : List ℕ → List ℕ
                 (ap (λ t. cond t (drop_pair s (p.i, p.j)) (append_member (drop_pair s (p.i, p.j)) (monic_member F key (record { polynomial = found.last.remainder; sugar = found.last.sugar })))) (sym none));
             members = after.members ∙ ap sugared_members (sym same);
             pending = subst (IsPendingOf key (drop_pair s (p.i, p.j))) (sym are) left;
-            traced = subst (All (IsTraced F N)) (sym same) after.traced;
+            in_place = subst AreInPlace (sym same) after.in_place;
+            history = subst₂ (λ ms h. IsHistoryOf F N (sugared_members ms) h) (sym same) (sym kept) after.history;
           }
 
       -- A turn in which a member is appended.
       pub after-appended : (new : Run K R) (m : Member K R) → new.members.items ≡ items ++ (m ∷ []) → new.pending.leads ≡ rest.leads ++ (lead_exponents key m.polynomial ∷ [])
-          → HasPairsWith new.pending.leads (length rest.leads) rest.pairs new.pending.pairs → IsNextMember F key items (p.i, p.j) (Some m) → IsTurned F key N turns new
-      unfolding drop_pair treat_pair append_member
+          → HasPairsWith new.pending.leads (length rest.leads) rest.pairs new.pending.pairs → IsNextMember F key items (p.i, p.j) old.history new.history (Some m) → IsTurned F key N turns new
+      unfolding drop_pair treat_pair append_member monic_member
       after-appended new m whole grown pairs found =
           let d = found.last in
           let member = monic_member F key (record { polynomial = d.remainder; sugar = d.sugar }) in
           let some : (len d.remainder == 0) ≡ false = ne_eqb (len d.remainder) 0 (λ z. found.found.0 (empty_of_len d.remainder z)) in
           let are : sugared_members new.members.items ≡ s.members ++ (member ∷ []) =
           ap sugared_members whole ∙ map-append sugared items (m ∷ []) ∙ ap₂ (λ G g. G ++ (g ∷ [])) (sym after.members) found.found.1 in
-          let places = first-places in
-          let good = subst (AreGood F key) after.members (IsRun-AreGood L O after.given after.run) in
           record {
             given = after.given;
             before = s;
@@ -178,6 +182,7 @@ module _ {K R : Type 0} {F : Field} (L : IsField F) {key : List ℕ → List ℕ
             pending = IsPendingOf-append key (drop_pair s (p.i, p.j)) member rest new.pending
                 (λ i j c. pending-places L O after.given after.run i j (contains_filter (λ other. not (other.0 == p.i && other.1 == p.j)) s.pending (i, j) c).0) left
                 (grown ∙ ap (λ g. rest.leads ++ (lead_exponents key g.polynomial ∷ [])) found.found.1) pairs;
-            traced = gathered_all (IsTraced F N) items new.members.items m after.traced
-                (next-IsTraced L O after.given items good after.traced p.i p.j (omega (arith, places.0, places.1)) places.1 d found.division m found.found.0 found.found.1 found.found.2) whole;
+            in_place = subst AreInPlace (sym whole) (in_place-push items m after.in_place found.found.2 (let low = found.division.low in let sugar = ap (λ g. g.sugar) found.found.1 in omega (arith, low, sugar)));
+            history = subst (λ G. IsHistoryOf F N G new.history) (sym (ap sugared_members whole ∙ map-append sugared items (m ∷ [])))
+                (IsHistoryOf-push (sugared_members items) (sugared m) old.history new.history found.found.3 after.history);
           }

@@ -38,10 +38,10 @@ pub record IsMadeOf (F : Field) (L : List Polynomial) (b : WithCofactors) : Type
   pub up : AreRows F b.members L b.up
 
 -- The run on L is finished within the budget with these members.
-pub record IsResult (F : Field) (key : List ℕ → List ℕ) (L : List Polynomial) (budget : ℕ) (b : WithCofactors) : Type 0 where
+pub record IsResult (F : Field) (key : List ℕ → List ℕ) (L : List Polynomial) (budget : ℕ) (members : List Polynomial) : Type 0 where
   pub basis : List Sugared
   pub finished : IsFinished F key L budget basis
-  pub members : polynomials_of basis ≡ b.members
+  pub are : polynomials_of basis ≡ members
 
 -- The certificate has the identities of the basis over the list L.
 pub record IsCertificateOf (p : ℕ) (order : OrderName) (L : List Polynomial) (b : WithCofactors) (c : Cert) : Type 0 where

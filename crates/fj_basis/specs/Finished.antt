@@ -1,13 +1,19 @@
 -- What finishing has found.
-use Rattle.std.specs.Prelude.{◌≡◌, ℕ, List, [], ◌∷◌, map, All}
+use Rattle.std.specs.Prelude.{◌≡◌, ◌≢◌, ℕ, List, [], ◌∷◌, All}
+use Rattle.std.specs.FinMap.{empty}
 use Rattle.fj_coeff.specs.Field.{Field}
-use Rattle.fj_theory.specs.Polynomial.{Polynomial, negation}
+use Rattle.fj_theory.specs.Polynomial.{Polynomial}
 use Rattle.fj_theory.specs.Ideal.{ArePolynomials}
-use Rattle.fj_groebner.specs.Rows.{add_multiples}
-use Rattle.fj_groebner.specs.Division.{Sugared, Division, IsLowDivision, IsHighDivision}
+use Rattle.fj_groebner.specs.Division.{AreWithinSugars, Sugared, Division, polynomials_of, IsLowDivision, IsHighDivision}
 use Rattle.fj_groebner.specs.Run as definition
 use Rattle.fj_basis.specs.declared.members.Member.{Member}
-use Rattle.fj_basis.specs.Members.{sugared, sugared_members, IsTraced}
+use Rattle.fj_basis.specs.Members.{sugared, sugared_members, AreInPlace}
+
+-- What a list that divides has to be.
+pub record AreDivisors (F : Field) (G : List Sugared) : Type 0 where
+  pub polynomials : ArePolynomials F (polynomials_of G)
+  pub nonzero : All (λ f. f ≢ empty) (polynomials_of G)
+  pub within : AreWithinSugars G
 
 -- The members of a run on some list.
 pub record AreMembersOfRun {K O : Type 0} (F : Field) (key : List ℕ → List ℕ) (members : List (Member K O)) : Type 0 where
@@ -17,15 +23,14 @@ pub record AreMembersOfRun {K O : Type 0} (F : Field) (key : List ℕ → List �
   pub state : definition.Run
   pub run : definition.IsRun F key list turns state
   pub are : state.members ≡ sugared_members members
-  pub traced : All (IsTraced F list) members
+  pub in_place : AreInPlace members
 
--- The member is replaced by its remainder by those before it, with the cofactors that its quotients give.
+-- The member is replaced by its remainder by those before it.
 pub record IsReplacementOf {K O : Type 0} (F : Field) (key : List ℕ → List ℕ) (before : List (Member K O)) (m next : Member K O) : Type 0 where
   pub last : Division
   pub division : IsLowDivision F key (sugared_members before) (sugared m) last
   pub polynomial : next.polynomial ≡ last.remainder
   pub sugar : next.sugar ≡ last.sugar
-  pub row : next.row.items ≡ add_multiples F (map (negation F) last.quotients) (map (λ b. b.row.items) before) m.row.items
 
 -- In the second act a sugar above the limit arises.
 pub record IsHighReplacing (F : Field) (key : List ℕ → List ℕ) (members : List Sugared) : Type 0 where

@@ -2,6 +2,8 @@ pub mod DivisionCode
 pub mod Left
 pub mod Quotients
 pub mod Members
+pub mod History
+pub mod Forming
 pub mod Place
 pub mod PlaceLaws
 pub mod Pending
@@ -9,4 +11,5 @@ pub mod State
 pub mod Outcome
 pub mod Finished
 pub mod Basis
+pub mod Calculation
 pub mod Leads

@@ -43,6 +43,12 @@ IsStopWhere F P Q order key L (Err (High k)) = Q × (P → ⊥) × IsKeptOf F or
 IsStopWhere F P Q order key L (Err (Product k)) = ⊥
 IsStopWhere F P Q order key L (Err Memory) = Unit {0}
 
+-- The stop that a fault of the run on L is told as.
+abbrev pub IsStopOf : Field → OrderName → (List ℕ → List ℕ) → List Polynomial → RunFault → Stop → Type 0
+IsStopOf F order key L run.Pairs stop = (k : Kept) × (stop ≡ Pairs k) × IsKeptOf F order key L k
+IsStopOf F order key L run.High stop = (k : Kept) × (stop ≡ High k) × IsKeptOf F order key L k
+IsStopOf F order key L run.Memory stop = stop ≡ Memory
+
 -- The same of a fault, but for the list, and only that it comes where P or Q holds.
 abbrev pub IsFaultOnlyWhere : {T : Type 0} → Type 0 → Type 0 → Result T RunFault → Type 0
 IsFaultOnlyWhere P Q (Ok x) = Unit {0}

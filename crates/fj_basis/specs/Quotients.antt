@@ -1,9 +1,9 @@
 -- What a division has found.
-use Rattle.std.specs.Prelude.{◌≡◌, ◌≢◌, ℕ, ◌+◌, ◌<◌, ◌≤◌, List, length, slice_index_or}
+use Rattle.std.specs.Prelude.{◌≡◌, ◌≢◌, ℕ, ◌<◌, List, length, slice_index_or}
 use Rattle.std.specs.FinMap.{empty}
 use Rattle.std.specs.declared.cmp.Ordering.TheVariants.{Greater}
 use Rattle.fj_coeff.specs.Field.{Field}
-use Rattle.fj_theory.specs.Exponents.{plus, total}
+use Rattle.fj_theory.specs.Exponents.{plus}
 use Rattle.fj_theory.specs.MonomialOrder.{compare_by}
 use Rattle.fj_theory.specs.Polynomial.{Polynomial, IsPolynomial, coefficient}
 use Rattle.fj_theory.specs.Ideal.{ArePolynomials}
@@ -25,9 +25,3 @@ pub record IsUnderWay (F : Field) (key : List ℕ → List ℕ) (G : List Sugare
   pub long : length s.quotients ≡ length G
   pub above : s.dividend ≢ empty → (k : ℕ) → k < length s.quotients → (a : List ℕ) → 0 < coefficient (slice_index_or s.quotients k empty) a
       → compare_by key (plus a (lead_exponents key (member_at G k).polynomial)) (lead_exponents key s.dividend) ≡ Greater
-
--- There is a quotient for each member, and each of its terms has a total that, with the member's sugar, is at most the bound.
-pub record AreQuotientsWithin (F : Field) (G : List Sugared) (bound : ℕ) (quotients : List Polynomial) : Type 0 where
-  pub polynomials : ArePolynomials F quotients
-  pub long : length quotients ≡ length G
-  pub within : (k : ℕ) → k < length quotients → (a : List ℕ) → 0 < coefficient (slice_index_or quotients k empty) a → total a + (member_at G k).sugar ≤ bound

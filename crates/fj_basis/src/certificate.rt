@@ -1,3 +1,4 @@
+//! Plain polynomials of lists and of tables, as stops keep them and certificates say them.
 ghost use Rattle.std.specs.Prelude.{◌≡◌, IfOk, All, map};
 ghost use Rattle.fj_theory.specs.Plain.{HasRanksBelow, polynomial};
 ghost use Rattle.fj_theory.specs.Certificate.{AllRanksBelow, AllRowsBelow};

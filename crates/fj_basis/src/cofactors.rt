@@ -1,16 +1,14 @@
+//! Rows of cofactors: zeros, one polynomial of the list, multiples and sums.
 ghost use Rattle.std.specs.Prelude.{◌≡◌, ◌<◌, IfOk, OnOk, All, length, map, replicate, set};
 ghost use Rattle.std.specs.FinMap.{empty};
 ghost use Rattle.fj_theory.specs.Exponents.{origin};
 ghost use Rattle.fj_theory.specs.Ideal.{ArePolynomials};
-ghost use Rattle.fj_theory.specs.Polynomial.{negation, product, term};
-ghost use Rattle.fj_groebner.specs.Division.{degree_limit};
-ghost use Rattle.fj_groebner.specs.Rows.{add_multiple, add_multiples};
+ghost use Rattle.fj_theory.specs.Polynomial.{product, term};
+ghost use Rattle.fj_groebner.specs.Rows.{add_multiple};
 ghost use Rattle.fj_poly.specs.Limit.{IsHigh};
 ghost use Rattle.fj_basis.specs.Outcome.{IsHighOnlyWhere};
-ghost use Rattle.fj_basis.specs.Quotients.{AreQuotientsWithin};
-ghost use Rattle.fj_basis.specs.Members.{IsRowWithin, sugared_members};
 
-use crate::members::{Member, Row};
+use crate::members::Row;
 use fj_coeff::Coeff;
 use fj_mono::{Mono, Order};
 use fj_poly::{Poly, PolyFault};
@@ -67,40 +65,19 @@ pub(crate) fn add_multiple<K: Coeff, O: Order>(
     Ok(())
 }
 
-/// Subtracts the row of each member times its quotient. No product has a term above the limit.
-pub(crate) fn subtract_multiples<K: Coeff, O: Order>(
+/// The row times f. No product has a term above the limit.
+pub(crate) fn times_row<K: Coeff, O: Order>(
     alloc: Global,
-    row: &mut [Poly<K, O>],
-    quotients: &[Poly<K, O>],
-    members: &[Member<K, O>],
-) -> Result<(), PolyFault>
-    requires row { ArePolynomials K.field row.old }
-    requires rows { All (λ m. IsRowWithin K.field m.sugar (length row.old) m.row.items) members.now }
-    requires quotients { AreQuotientsWithin K.field (sugared_members members.now) degree_limit quotients.now }
-    ensures value { OnOk result (row.new ≡ add_multiples K.field (map (negation K.field) quotients.now) (map (λ m. m.row.items) members.now) row.old) }
+    f: &Poly<K, O>,
+    row: &[Poly<K, O>],
+) -> Result<Row<K, O>, PolyFault>
+    requires within { All (λ y. IsHigh (product K.field f.now y) → ⊥) row.now }
+    ensures value { IfOk result (λ product_row. product_row.items ≡ map (product K.field f.now) row.now) }
     ensures high { IsHighOnlyWhere ⊥ result }
 {
-    let minus_one = K::one().neg();
-    for k in 0..quotients.len() {
-        if !quotients[k].is_zero() {
-            let factor = quotients[k].scale(alloc, minus_one)?;
-            add_multiple(alloc, row, &factor, &members[k].row)?;
-        }
+    let mut products = Vec::with_capacity(alloc, row.len())?;
+    for y in row {
+        products.push(f.mul(alloc, y)?)?;
     }
-    Ok(())
-}
-
-/// The row times c.
-pub(crate) fn scale_row<K: Coeff, O: Order>(
-    alloc: Global,
-    row: &[Poly<K, O>],
-    c: K,
-) -> Result<Row<K, O>, AllocError>
-    ensures { IfOk result (λ scaled. scaled.items ≡ map (product K.field (term (K.rank c) origin)) row.now) }
-{
-    let mut scaled = Vec::with_capacity(alloc, row.len())?;
-    for f in row {
-        scaled.push(f.scale(alloc, c)?)?;
-    }
-    Ok(scaled)
+    Ok(products)
 }

@@ -1,18 +1,21 @@
-ghost use Rattle.std.specs.Prelude.{◌≡◌, ◌≢◌, ◌<◌, ◌≤◌, ◌++◌, ◌∷◌, ◌&&◌, ◌||◌, not, [], List, IfOk, OnOk, All, Any, Contains, length, map};
+//! The acts of finishing: superfluous members are left out, the others are replaced by their remainders, and the given list
+//! is divided by the result.
+ghost use Rattle.std.specs.Prelude.{◌≡◌, ◌≢◌, ◌+◌, ◌<◌, ◌≤◌, ◌++◌, true, ◌∷◌, ◌&&◌, ◌||◌, not, [], List, IfOk, OnOk, All, Any, Contains, length, map};
 ghost use Rattle.std.specs.List.{range_with_len};
 ghost use Rattle.std.specs.FinMap.{empty};
 ghost use Rattle.fj_theory.specs.Exponents.{divides};
 ghost use Rattle.fj_theory.specs.Ideal.{ArePolynomials};
 ghost use Rattle.fj_theory.specs.Polynomial.{IsPolynomial, Polynomial};
-ghost use Rattle.fj_groebner.specs.Division.{AreWithinSugars, DegreeAtMost, IsHighDivision, degree_limit, polynomials_of};
+ghost use Rattle.fj_groebner.specs.Division.{AreWithinSugars, DegreeAtMost, Division, IsHighDivision, IsLowDivision, Sugared, degree_limit, member_at, polynomials_of};
 ghost use Rattle.fj_groebner.specs.Run.{IsReplacing, given, is_left_out, kept_members, place_by_lead, sort_by_lead};
-ghost use Rattle.fj_basis.specs.Finished.{AreMembersOfRun, AreQuotients, IsHighReplacing, IsQuotients, IsReplacementOf};
-ghost use Rattle.fj_basis.specs.Members.{IsRowWithin, IsTraced, sugared, sugared_members};
+ghost use Rattle.fj_basis.specs.Finished.{AreDivisors, AreMembersOfRun, AreQuotients, IsHighReplacing, IsQuotients, IsReplacementOf};
+ghost use Rattle.fj_basis.specs.History.{HasRecordedMember, IsHistoryOf};
+ghost use Rattle.fj_basis.specs.Members.{sugared, sugared_members};
 ghost use Rattle.fj_basis.specs.Outcome.{IsHighOnlyWhere};
 
-use crate::cofactors::subtract_multiples;
 use crate::division::divide_sugared;
 use crate::handed::sugar_of;
+use crate::history::{History, Source, Summand, with_negatives};
 use crate::members::{Member, Row};
 use fj_coeff::Coeff;
 use fj_mono::{Mono, Order};
@@ -101,15 +104,19 @@ fn sorted_by_lead<K: Coeff, O: Order>(
 pub(crate) fn replaced<K: Coeff, O: Order>(
     alloc: Global,
     members: Vec<Member<K, O>>,
+    history: &mut History<K, O>,
 ) -> Result<Vec<Member<K, O>>, PolyFault>
-    requires { AreMembersOfRun K.field O.key members.items }
+    requires run { AreMembersOfRun K.field O.key members.items }
+    requires recorded { history.old.is_kept ≡ true → length history.old.makings.items ≡ length members.items }
     ensures value { IfOk result (λ basis. IsReplacing K.field O.key (sugared_members members.items) (record { replaced = sugared_members basis.items; rest = [] })) }
-    ensures traced { IfOk result (λ basis. (L : List Polynomial) → ArePolynomials K.field L → All (IsTraced K.field L) members.items → All (IsTraced K.field L) basis.items) }
+    ensures history { IfOk result (λ basis. (L : List Polynomial) → IsHistoryOf K.field L (sugared_members members.items) history.old → IsHistoryOf K.field L (sugared_members members.items ++ sugared_members basis.items) history.new) }
+    ensures kept { IfOk result (λ _. history.new.is_kept ≡ history.old.is_kept) }
     ensures high { IsHighOnlyWhere (IsHighReplacing K.field O.key (sugared_members members.items)) result }
 {
+    let from = members.len();
     let mut replaced = Vec::new(alloc);
     for member in sorted_by_lead(alloc, members)? {
-        let next = replacement(alloc, member, &replaced)?;
+        let next = replacement(alloc, member, &replaced, from, history)?;
         append_member(&mut replaced, next)?;
     }
     Ok(replaced)
@@ -125,32 +132,55 @@ fn append_member<K: Coeff, O: Order>(
     Ok(())
 }
 
-// The remainder of a member by those that are replaced already, with its sugar and its cofactors.
+// The remainder of a member by those that are replaced already, with its sugar, recorded in the history, where these stand
+// from the place `from` on.
 fn replacement<K: Coeff, O: Order>(
     alloc: Global,
     member: Member<K, O>,
     replaced: &[Member<K, O>],
+    from: usize,
+    history: &mut History<K, O>,
 ) -> Result<Member<K, O>, PolyFault>
     requires polynomials { ArePolynomials K.field (polynomials_of (sugared_members replaced.now)) }
     requires nonzero { All (λ f. f ≢ empty) (polynomials_of (sugared_members replaced.now)) }
     requires within { AreWithinSugars (sugared_members replaced.now) }
     requires polynomial { IsPolynomial K.field member.polynomial }
-    requires rows { All (λ m. IsRowWithin K.field m.sugar (length member.row.items) m.row.items) replaced.now }
     requires bound { DegreeAtMost member.sugar member.polynomial }
     requires low { member.sugar ≤ degree_limit }
-    requires row { ArePolynomials K.field member.row.items }
+    requires recorded { history.old.is_kept ≡ true → length history.old.makings.items ≡ from + length replaced.now }
     ensures value { IfOk result (IsReplacementOf K.field O.key replaced.now member) }
+    ensures recorded { IfOk result (λ next. (G : List Sugared) → length G ≡ from → ArePolynomials K.field (polynomials_of G) → member.place < from → member_at G member.place ≡ sugared member → HasRecordedMember K.field (G ++ sugared_members replaced.now) (sugared next) history.old history.new) }
     ensures high { IsHighOnlyWhere (IsHighDivision K.field O.key (sugared_members replaced.now) (sugared member)) result }
 {
     let division = divide_sugared(alloc, &member.polynomial, member.sugar, replaced)?;
-    let mut row = member.row;
-    subtract_multiples(alloc, &mut row, division.quotients(), replaced)?;
+    record(alloc, member.place, division.quotients(), from, history)?;
     let (_, polynomial, sugar) = division.into_parts();
     Ok(Member {
         polynomial,
         sugar,
-        row,
+        place: member.place,
     })
+}
+
+// Records that the polynomial at a place less the multiples by the quotients is made.
+fn record<K: Coeff, O: Order>(
+    alloc: Global,
+    place: usize,
+    quotients: &[Poly<K, O>],
+    from: usize,
+    history: &mut History<K, O>,
+) -> Result<(), AllocError>
+    requires quotients { ArePolynomials K.field quotients.now }
+    requires recorded { history.old.is_kept ≡ true → length history.old.makings.items ≡ from + length quotients.now }
+    ensures { OnOk result ((G B : List Sugared) (last : Division) → length G ≡ from → place < from → ArePolynomials K.field (polynomials_of G) → AreDivisors K.field B → DegreeAtMost (member_at G place).sugar (member_at G place).polynomial → IsLowDivision K.field O.key B (member_at G place) last → quotients.now ≡ last.quotients → HasRecordedMember K.field (G ++ B) (record { polynomial = last.remainder; sugar = last.sugar }) history.old history.new) }
+{
+    if history.is_kept {
+        let factor = Poly::term(alloc, K::one(), &Mono::one())?;
+        let member = vec![in alloc; Summand { place, factor }]?;
+        let summands = with_negatives(alloc, member, quotients, from)?;
+        history.push(alloc, K::one(), Source::Combined(summands))?;
+    }
+    Ok(())
 }
 
 /// The third act: each polynomial of the list is divided by the result. The quotients are its cofactors.

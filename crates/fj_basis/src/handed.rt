@@ -1,3 +1,4 @@
+//! Polynomials that are handed in: that they are polynomials, and their sugars.
 ghost use Rattle.std.specs.Prelude.{◌≡◌, ◌≤◌};
 ghost use Rattle.fj_groebner.specs.Division.{degree_limit};
 ghost use Rattle.fj_theory.specs.Ideal.{ArePolynomials};

@@ -8,7 +8,9 @@ mod cofactors;
 mod division;
 mod divisor;
 mod finishing;
+mod forming;
 mod handed;
+mod history;
 mod leads;
 mod members;
 mod pairs;
@@ -17,7 +19,7 @@ mod run;
 mod stop;
 pub mod types;
 
-pub use calculation::basis;
+pub use calculation::{basis, reduced_basis};
 pub use certificate::{kept, plain_list};
 pub use division::divide;
 pub use handed::look_over;

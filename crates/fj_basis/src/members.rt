@@ -1,4 +1,5 @@
-ghost use Rattle.std.specs.Prelude.{◌≡◌, ◌≢◌};
+//! Members of a run: what divides, with its sugar and its place.
+ghost use Rattle.std.specs.Prelude.{◌≡◌, ◌≢◌, IfOk, map};
 ghost use Rattle.std.specs.FinMap.{empty};
 ghost use Rattle.fj_theory.specs.Lead.{lead_exponents};
 ghost use Rattle.fj_basis.specs.Members.{sugared};
@@ -7,16 +8,17 @@ use crate::divisor::Divisor;
 use fj_coeff::Coeff;
 use fj_mono::{Mono, Order};
 use fj_poly::Poly;
+use std::alloc::{AllocError, Global};
 
 /// The cofactors by which a polynomial is a combination of a list.
 pub(crate) type Row<K, O> = Vec<Poly<K, O>>;
 
-/// A member of a run, with its sugar and its cofactors over the list that the run was given.
+/// A member of a run, or what replaces it in finishing, with its sugar and the member's place in the run.
 #[derive(Drop)]
 pub(crate) struct Member<K: Coeff, O: Order> {
     pub(crate) polynomial: Poly<K, O>,
     pub(crate) sugar: u64,
-    pub(crate) row: Row<K, O>,
+    pub(crate) place: usize,
 }
 
 impl<K: Coeff, O: Order> Member<K, O> {
@@ -40,4 +42,18 @@ impl<K: Coeff, O: Order> Divisor<K, O> for Member<K, O> {
     fn sugar(&self) -> u64 {
         self.sugar
     }
+}
+
+/// The polynomials of some members.
+pub(crate) fn polynomials<K: Coeff, O: Order>(
+    alloc: Global,
+    members: Vec<Member<K, O>>,
+) -> Result<Vec<Poly<K, O>>, AllocError>
+    ensures { IfOk result (λ fs. fs.items ≡ map (λ m. m.polynomial) members.items) }
+{
+    let mut polynomials = Vec::with_capacity(alloc, members.len())?;
+    for member in members {
+        polynomials.push(member.polynomial)?;
+    }
+    Ok(polynomials)
 }

@@ -1,24 +1,24 @@
-ghost use Rattle.std.specs.Prelude.{◌≡◌, ◌≢◌, ◌+◌, ◌-◌, ◌<◌, ◌≤◌, ◌↔◌, ◌++◌, ◌∷◌, ℕ, suc, List, [], IfOk, OnOk, IsTrue, All, length, replicate};
+//! The run of Buchberger's algorithm, a turn at a time.
+ghost use Rattle.std.specs.Prelude.{◌≡◌, ◌≢◌, ◌+◌, ◌-◌, ◌<◌, ◌≤◌, ◌↔◌, ◌++◌, ◌∷◌, ℕ, suc, List, [], IfOk, OnOk, IsTrue, All, length};
 ghost use Rattle.std.specs.FinMap.{empty};
 ghost use Rattle.fj_theory.specs.Exponents.{divides, minus, total};
 ghost use Rattle.fj_theory.specs.Ideal.{ArePolynomials};
-ghost use Rattle.fj_theory.specs.Lead.{lead_exponents};
+ghost use Rattle.fj_theory.specs.Lead.{lead_coefficient, lead_exponents};
 ghost use Rattle.fj_theory.specs.Polynomial.{Polynomial, product, term};
-ghost use Rattle.fj_groebner.specs.Rows.{add_multiple};
-ghost use Rattle.fj_groebner.specs.Division.{IsHighDivision, degree_limit, member_at};
-ghost use Rattle.fj_groebner.specs.Run.{are_coprime, has_coprime_leads, lead_of, pair_multiple, s_polynomial};
+ghost use Rattle.fj_groebner.specs.Division.{Division, IsHighDivision, IsLowDivision, degree_limit, member_at};
+ghost use Rattle.fj_groebner.specs.Run.{are_coprime, has_coprime_leads, lead_of, monic_member, s_polynomial};
 ghost use Rattle.fj_basis.specs.Finished.{AreMembersOfRun};
 ghost use Rattle.fj_basis.specs.Members.{sugared_members};
 ghost use Rattle.fj_basis.specs.Outcome.{IsHighOnlyWhere};
+ghost use Rattle.fj_basis.specs.History.{ArePairSummands, HasRecordedMember};
 ghost use Rattle.fj_basis.specs.Pending.{HasPairsWith};
-ghost use Rattle.fj_basis.specs.Quotients.{AreQuotientsWithin};
-ghost use Rattle.fj_basis.specs.State.{IsAfter, IsFirstMember, IsHighNext, IsNextMember, IsPairOf, IsState, IsTurned, row_at, s_polynomial_row};
+ghost use Rattle.fj_basis.specs.State.{IsAfter, IsFirstMember, IsHighNext, IsNextMember, IsPairOf, IsState, IsTurned};
 
-use crate::cofactors::{add_multiple, row_of_one, scale_row, subtract_multiples, zero_row};
 use crate::division::divide_sugared;
 use crate::divisor::Divisor;
 use crate::handed::{look_over, sugar_of};
-use crate::members::{Member, Row};
+use crate::history::{History, Source, Summand, with_negatives};
+use crate::members::Member;
 use crate::pairs::Pair;
 use crate::pending::Pending;
 use fj_coeff::Coeff;
@@ -31,21 +31,29 @@ use std::alloc::{AllocError, Global};
 pub(crate) struct Run<K: Coeff, O: Order> {
     members: Vec<Member<K, O>>,
     pending: Pending<O>,
+    history: History<K, O>,
 }
 
 impl<K: Coeff, O: Order> Run<K, O> {
     /// The run on a list begins with those of its polynomials that aren't zero, made monic, and with all pairs but those
     /// that are spared.
-    pub(crate) fn start(alloc: Global, list: &[Poly<K, O>]) -> Result<Run<K, O>, AllocError>
-        ensures { IfOk result (IsAfter K.field O.key list.now 0) }
+    pub(crate) fn start(
+        alloc: Global,
+        list: &[Poly<K, O>],
+        is_recorded: bool,
+    ) -> Result<Run<K, O>, AllocError>
+        ensures value { IfOk result (IsAfter K.field O.key list.now 0) }
+        ensures kept { IfOk result (λ run. run.history.is_kept ≡ is_recorded) }
     {
         look_over(list);
         let mut run = Run {
             members: Vec::new(alloc),
             pending: Pending::new(alloc),
+            history: History::new(alloc, is_recorded),
         };
         for j in 0..list.len() {
-            if let Some(member) = first_member(alloc, list, j)? {
+            if let Some((member, inverse)) = first_member(alloc, list, j, run.members.len())? {
+                run.history.push(alloc, inverse, Source::Given(j))?;
                 run.append(alloc, member)?;
             }
         }
@@ -60,11 +68,12 @@ impl<K: Coeff, O: Order> Run<K, O> {
         self.pending.is_empty()
     }
 
-    /// The members.
-    pub(crate) fn into_members(self) -> Vec<Member<K, O>>
-        ensures { result ≡ self.members }
+    /// The members, and how they were made.
+    pub(crate) fn into_parts(self) -> (Vec<Member<K, O>>, History<K, O>)
+        ensures members { result.0 ≡ self.members }
+        ensures history { result.1 ≡ self.history }
     {
-        self.members
+        (self.members, self.history)
     }
 
     /// One turn, and then the next pair is removed as long as it is spared, which is no turn.
@@ -72,6 +81,7 @@ impl<K: Coeff, O: Order> Run<K, O> {
         requires state { IsState K.field O.key self.old }
         requires pending { self.old.pending.pairs ≢ [] }
         ensures turn { OnOk result ((L : List Polynomial) (turns : ℕ) → IsAfter K.field O.key L turns self.old → IsAfter K.field O.key L (suc turns) self.new) }
+        ensures kept { OnOk result (self.new.history.is_kept ≡ self.old.history.is_kept) }
         ensures high { IsHighOnlyWhere (IsHighNext K.field O.key self.old) result }
     {
         self.treat_next(alloc)?;
@@ -85,6 +95,7 @@ impl<K: Coeff, O: Order> Run<K, O> {
         requires state { IsState K.field O.key self.old }
         requires pending { self.old.pending.pairs ≢ [] }
         ensures turn { OnOk result ((L : List Polynomial) (turns : ℕ) → IsAfter K.field O.key L turns self.old → IsTurned K.field O.key L turns self.new) }
+        ensures kept { OnOk result (self.new.history.is_kept ≡ self.old.history.is_kept) }
         ensures high { IsHighOnlyWhere (IsHighNext K.field O.key self.old) result }
     {
         let pair = self.pending.take_next();
@@ -97,14 +108,20 @@ impl<K: Coeff, O: Order> Run<K, O> {
         Ok(())
     }
 
-    // The member that the pair gives, if the remainder of its S-polynomial isn't zero.
-    fn next_member(&self, alloc: Global, pair: &Pair<O>) -> Result<Option<Member<K, O>>, PolyFault>
-        requires state { AreMembersOfRun K.field O.key self.now.members.items }
-        requires pair { IsPairOf O.key (sugared_members self.now.members.items) pair.now }
+    // The member that the pair gives, if the remainder of its S-polynomial isn't zero, recorded in the history.
+    fn next_member(
+        &mut self,
+        alloc: Global,
+        pair: &Pair<O>,
+    ) -> Result<Option<Member<K, O>>, PolyFault>
+        requires state { AreMembersOfRun K.field O.key self.old.members.items }
+        requires pair { IsPairOf O.key (sugared_members self.old.members.items) pair.now }
         requires first { pair.now.i < pair.now.j }
-        requires second { pair.now.j < length self.now.members.items }
-        ensures value { IfOk result (IsNextMember K.field O.key self.now.members.items (pair.now.i, pair.now.j)) }
-        ensures high { IsHighOnlyWhere (IsHighDivision K.field O.key (sugared_members self.now.members.items) (s_polynomial K.field O.key (sugared_members self.now.members.items) (pair.now.i, pair.now.j))) result }
+        requires second { pair.now.j < length self.old.members.items }
+        ensures members { self.new.members ≡ self.old.members }
+        ensures pending { self.new.pending ≡ self.old.pending }
+        ensures value { IfOk result (IsNextMember K.field O.key self.old.members.items (pair.now.i, pair.now.j) self.old.history self.new.history) }
+        ensures high { IsHighOnlyWhere (IsHighDivision K.field O.key (sugared_members self.old.members.items) (s_polynomial K.field O.key (sugared_members self.old.members.items) (pair.now.i, pair.now.j))) result }
     {
         let (s, sugar) = self.s_polynomial(alloc, pair)?;
         let division = divide_sugared(alloc, &s, sugar, &self.members)?;
@@ -112,14 +129,39 @@ impl<K: Coeff, O: Order> Run<K, O> {
             return Ok(None);
         };
         let inverse = coefficient.inv();
-        let cofactors = self.remainder_row(alloc, pair, division.quotients())?;
-        let row = scale_row(alloc, &cofactors, inverse)?;
+        self.record(alloc, inverse, pair, division.quotients())?;
         let (_, remainder, sugar) = division.into_parts();
         Ok(Some(Member {
             polynomial: remainder.scale(alloc, inverse)?,
             sugar,
-            row,
+            place: self.members.len(),
         }))
+    }
+
+    // Records that the remainder of the S-polynomial of a pair is made with these quotients, times c.
+    fn record(
+        &mut self,
+        alloc: Global,
+        c: K,
+        pair: &Pair<O>,
+        quotients: &[Poly<K, O>],
+    ) -> Result<(), AllocError>
+        requires state { AreMembersOfRun K.field O.key self.old.members.items }
+        requires pair { IsPairOf O.key (sugared_members self.old.members.items) pair.now }
+        requires first { pair.now.i < pair.now.j }
+        requires second { pair.now.j < length self.old.members.items }
+        requires low { (s_polynomial K.field O.key (sugared_members self.old.members.items) (pair.now.i, pair.now.j)).sugar ≤ degree_limit }
+        requires quotients { ArePolynomials K.field quotients.now }
+        ensures members { self.new.members ≡ self.old.members }
+        ensures pending { self.new.pending ≡ self.old.pending }
+        ensures recorded { OnOk result ((last : Division) → IsLowDivision K.field O.key (sugared_members self.old.members.items) (s_polynomial K.field O.key (sugared_members self.old.members.items) (pair.now.i, pair.now.j)) last → quotients.now ≡ last.quotients → last.remainder ≢ empty → K.rank c ≡ K.field.inverse (lead_coefficient O.key last.remainder) → HasRecordedMember K.field (sugared_members self.old.members.items) (monic_member K.field O.key (record { polynomial = last.remainder; sugar = last.sugar })) self.old.history self.new.history) }
+    {
+        if self.history.is_kept {
+            let both = self.pair_summands(alloc, pair)?;
+            let summands = with_negatives(alloc, both, quotients, 0)?;
+            self.history.push(alloc, c, Source::Combined(summands))?;
+        }
+        Ok(())
     }
 
     // Whether the leads of a pair have no variable in common.
@@ -138,6 +180,7 @@ impl<K: Coeff, O: Order> Run<K, O> {
     fn append(&mut self, alloc: Global, member: Member<K, O>) -> Result<(), AllocError>
         requires { member.polynomial ≢ empty }
         ensures members { OnOk result (self.new.members.items ≡ self.old.members.items ++ member ∷ []) }
+        ensures history { self.new.history ≡ self.old.history }
         ensures leads { OnOk result (self.new.pending.leads ≡ self.old.pending.leads ++ lead_exponents O.key member.polynomial ∷ []) }
         ensures pending { OnOk result (HasPairsWith self.new.pending.leads (length self.old.pending.leads) self.old.pending.pairs self.new.pending.pairs) }
     {
@@ -193,97 +236,59 @@ impl<K: Coeff, O: Order> Run<K, O> {
         self.members[k].polynomial.shift(alloc, &factor)
     }
 
-    // The cofactors of the remainder of an S-polynomial, from the quotients of its division.
-    fn remainder_row(
-        &self,
-        alloc: Global,
-        pair: &Pair<O>,
-        quotients: &[Poly<K, O>],
-    ) -> Result<Row<K, O>, PolyFault>
+    // The multiples of the members whose sum is the S-polynomial of a pair.
+    fn pair_summands(&self, alloc: Global, pair: &Pair<O>) -> Result<Vec<Summand<K, O>>, AllocError>
         requires state { AreMembersOfRun K.field O.key self.now.members.items }
         requires pair { IsPairOf O.key (sugared_members self.now.members.items) pair.now }
         requires first { pair.now.i < pair.now.j }
         requires second { pair.now.j < length self.now.members.items }
         requires low { (s_polynomial K.field O.key (sugared_members self.now.members.items) (pair.now.i, pair.now.j)).sugar ≤ degree_limit }
-        requires quotients { AreQuotientsWithin K.field (sugared_members self.now.members.items) degree_limit quotients.now }
-        ensures value { IfOk result (λ row. row.items ≡ s_polynomial_row K.field O.key self.now.members.items (replicate (length (row_at self.now.members.items pair.now.i)) empty) (pair.now.i, pair.now.j) quotients.now) }
-        ensures high { IsHighOnlyWhere ⊥ result }
+        ensures { IfOk result (λ both. ArePairSummands K.field O.key (sugared_members self.now.members.items) (pair.now.i, pair.now.j) both.items) }
     {
         let multiple = pair.multiple().unwrap();
-        let mut row = zero_row(alloc, self.members[pair.first()].row.len())?;
-        self.fill_row(alloc, &mut row, pair, &multiple, quotients)?;
-        Ok(row)
+        let first = self.summand(alloc, K::one(), pair.first(), &multiple)?;
+        let second = self.summand(alloc, K::one().neg(), pair.second(), &multiple)?;
+        Ok(vec![in alloc; first, second]?)
     }
 
-    // Adds to a row the cofactors of the S-polynomial of a pair, and subtracts those of the members times the quotients.
-    fn fill_row(
-        &self,
-        alloc: Global,
-        row: &mut [Poly<K, O>],
-        pair: &Pair<O>,
-        multiple: &Mono,
-        quotients: &[Poly<K, O>],
-    ) -> Result<(), PolyFault>
-        requires state { AreMembersOfRun K.field O.key self.now.members.items }
-        requires first { pair.now.i < pair.now.j }
-        requires second { pair.now.j < length self.now.members.items }
-        requires multiple { multiple.now.exponents ≡ pair_multiple O.key (sugared_members self.now.members.items) (pair.now.i, pair.now.j) }
-        requires low { (s_polynomial K.field O.key (sugared_members self.now.members.items) (pair.now.i, pair.now.j)).sugar ≤ degree_limit }
-        requires quotients { AreQuotientsWithin K.field (sugared_members self.now.members.items) degree_limit quotients.now }
-        requires row { ArePolynomials K.field row.old }
-        requires long { length row.old ≡ length (row_at self.now.members.items pair.now.i) }
-        ensures value { OnOk result (row.new ≡ s_polynomial_row K.field O.key self.now.members.items row.old (pair.now.i, pair.now.j) quotients.now) }
-        ensures high { IsHighOnlyWhere ⊥ result }
-    {
-        self.add_multiple_of(alloc, row, K::one(), pair.first(), multiple)?;
-        self.add_multiple_of(alloc, row, K::one().neg(), pair.second(), multiple)?;
-        subtract_multiples(alloc, row, quotients, &self.members)
-    }
-
-    // Adds to a row that of a member times c and the monomial by which the lead becomes m.
-    fn add_multiple_of(
-        &self,
-        alloc: Global,
-        row: &mut [Poly<K, O>],
-        c: K,
-        k: usize,
-        m: &Mono,
-    ) -> Result<(), PolyFault>
-        requires state { AreMembersOfRun K.field O.key self.now.members.items }
+    // The multiple of a member by c and the monomial by which its lead becomes m.
+    fn summand(&self, alloc: Global, c: K, k: usize, m: &Mono) -> Result<Summand<K, O>, AllocError>
+        requires nonzero { All (λ m. m.polynomial ≢ empty) self.now.members.items }
         requires place { k < length self.now.members.items }
         requires divisor { IsTrue (divides (lead_of O.key (sugared_members self.now.members.items) k) m.now.exponents) }
-        requires low { (member_at (sugared_members self.now.members.items) k).sugar - total (lead_of O.key (sugared_members self.now.members.items) k) + total m.now.exponents ≤ degree_limit }
-        requires row { ArePolynomials K.field row.old }
-        requires long { length row.old ≡ length (row_at self.now.members.items k) }
-        ensures value { OnOk result (row.new ≡ add_multiple K.field (term (K.rank c) (minus m.now.exponents (lead_of O.key (sugared_members self.now.members.items) k))) row.old (row_at self.now.members.items k)) }
-        ensures high { IsHighOnlyWhere ⊥ result }
+        ensures place { IfOk result (λ s. s.place ≡ k) }
+        ensures factor { IfOk result (λ s. s.factor ≡ term (K.rank c) (minus m.now.exponents (lead_of O.key (sugared_members self.now.members.items) k))) }
     {
         let monomial = m.quot(&self.members[k].lead());
-        let factor = Poly::term(alloc, c, &monomial)?;
-        add_multiple(alloc, row, &factor, &self.members[k].row)
+        Ok(Summand {
+            place: k,
+            factor: Poly::term(alloc, c, &monomial)?,
+        })
     }
 }
 
-// The member that the polynomial at place j of the list gives, if it isn't zero.
+// The member that the polynomial at place j of the list gives, if it isn't zero, and the constant that makes it monic.
 fn first_member<K: Coeff, O: Order>(
     alloc: Global,
     list: &[Poly<K, O>],
     j: usize,
-) -> Result<Option<Member<K, O>>, AllocError>
+    place: usize,
+) -> Result<Option<(Member<K, O>, K)>, AllocError>
     requires list { ArePolynomials K.field list.now }
-    requires place { j < length list.now }
-    ensures { IfOk result (IsFirstMember K.field O.key list.now j) }
+    requires at { j < length list.now }
+    ensures { IfOk result (IsFirstMember K.field O.key K.rank list.now j place) }
 {
     let f = &list[j];
     let Some((coefficient, _)) = f.lead() else {
         return Ok(None);
     };
     let inverse = coefficient.inv();
-    Ok(Some(Member {
+    let member = Member {
         polynomial: f.scale(alloc, inverse)?,
         sugar: sugar_of(f),
-        row: row_of_one(alloc, inverse, j, list.len())?,
-    }))
+        place,
+    };
+    Ok(Some((member, inverse)))
 }
 
 // Whether two monomials have no variable in common.

@@ -1,3 +1,4 @@
+//! Why a calculation stops.
 ghost use Rattle.std.specs.Prelude.{◌≡◌};
 ghost use Rattle.fj_basis.specs.declared.stop.Stop.TheVariants.{Memory};
 

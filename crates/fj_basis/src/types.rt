@@ -1,3 +1,4 @@
+//! Reduced bases with their cofactors, and their certificates.
 ghost use Rattle.std.specs.Prelude.{◌≡◌, ◌<◌, IfOk, All, length, map};
 ghost use Rattle.fj_plain.specs.Holds.{Holds};
 ghost use Rattle.fj_plain.specs.OrderRow.{order_in_row};
@@ -7,7 +8,7 @@ mod copy;
 mod itself;
 
 use crate::certificate::{plain_list, plain_table};
-use crate::members::{Member, Row};
+use crate::members::Row;
 pub use copy::copy_list;
 use fj_coeff::Coeff;
 use fj_mono::Order;
@@ -39,29 +40,20 @@ impl<K: Coeff, O: Order> Model for Basis<K, O> {
 }
 
 impl<K: Coeff, O: Order> Basis<K, O> {
-    // The basis of the members of a finished run, with the cofactors of the given polynomials.
+    // The basis with these members, with their cofactors and with those of the given polynomials.
     pub(crate) fn new(
-        alloc: Global,
-        members: Vec<Member<K, O>>,
+        members: Vec<Poly<K, O>>,
+        down: Vec<Row<K, O>>,
         up: Vec<Row<K, O>>,
-    ) -> Result<Basis<K, O>, AllocError>
-        requires down { All (λ m. length m.row.items ≡ length up.items) members.items }
+    ) -> Basis<K, O>
+        requires rows { length down.items ≡ length members.items }
+        requires down { All (λ row. length row.items ≡ length up.items) down.items }
         requires up { All (λ row. length row.items ≡ length members.items) up.items }
-        ensures members { IfOk result (λ b. b.members ≡ map (λ m. m.polynomial) members.items) }
-        ensures down { IfOk result (λ b. b.down ≡ map (λ m. m.row.items) members.items) }
-        ensures up { IfOk result (λ b. b.up ≡ map (λ row. row.items) up.items) }
+        ensures members { result.members ≡ members.items }
+        ensures down { result.down ≡ map (λ row. row.items) down.items }
+        ensures up { result.up ≡ map (λ row. row.items) up.items }
     {
-        let mut polynomials = Vec::with_capacity(alloc, members.len())?;
-        let mut down = Vec::with_capacity(alloc, members.len())?;
-        for member in members {
-            polynomials.push(member.polynomial)?;
-            down.push(member.row)?;
-        }
-        Ok(Basis {
-            members: polynomials,
-            down,
-            up,
-        })
+        Basis { members, down, up }
     }
 
     /// The members, rising by lead.

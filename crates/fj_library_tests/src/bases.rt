@@ -2,7 +2,7 @@
 ghost use Rattle.std.specs.Prelude.{◌≡◌};
 
 use crate::rows::{have_terms, poly, polys};
-use fj_basis::{Stop, basis, divide};
+use fj_basis::{Stop, basis, divide, reduced_basis};
 use fj_coeff::{Coeff, Fp};
 use fj_mono::{Elim, Grevlex, Grlex, Lex, Order};
 use fj_plain::{Kept, OrderName, PlainPoly, holds};
@@ -22,7 +22,8 @@ const Y: Terms<'static> = &[([0, 1, 0], 1)];
 
 const Z: Terms<'static> = &[([0, 0, 1], 1)];
 
-// The run on a list with these turns answers this reduced basis, whose certificate holds, and with one turn less it stops.
+// The run on a list with these turns answers this reduced basis, whose certificate holds, with and without cofactors, and
+// with one turn less it stops.
 fn answers<K: Coeff, O: Order, const N: usize>(
     rt: &impl Abort,
     alloc: Global,
@@ -38,6 +39,7 @@ fn answers<K: Coeff, O: Order, const N: usize>(
     }
     let found = basis(alloc, &given, turns)?;
     have_terms(rt, alloc, found.members(), members)?;
+    have_terms(rt, alloc, &reduced_basis(alloc, &given, turns)?, members)?;
     let cert = found.cert(alloc, &given)?;
     assert!(rt; holds(alloc, &cert)?);
     Ok(())

@@ -1,5 +1,6 @@
 use Rattle.fj_groebner.proofs.Turns.{IsFinished-TooHigh, IsFinished-Unfinished, Unfinished-TooHigh}
 use Rattle.fj_basis.proofs.MadeRows.{AreRows-long}
+use Rattle.fj_basis.proofs.Stops.{stop_told}
 use Rattle.fj_basis.proofs.calculation.basis.Goals as goal
 
 pub returns-in-Ok-clause-long : goal.returns-in-Ok-clause-long
@@ -10,12 +11,6 @@ returns-in-Ok-clause-stop g c =
     let f = c.in-Ok.ensures.value.finished in
     (λ u. IsFinished-Unfinished f u, λ h. IsFinished-TooHigh f h)
 
-pub returns-in_ok-kept-in-Err-Pairs-clause-stop : goal.returns-in_ok-kept-in-Err-Pairs-clause-stop
-returns-in_ok-kept-in-Err-Pairs-clause-stop g c =
-    let u = rw c.in-Err-Pairs.field-0-is at c.in-Err-Pairs.ensures.fault in
-    (u, λ h. Unfinished-TooHigh u h, c.in_ok-kept-in-Err-Pairs.ensures)
-
-pub returns-in_ok-kept-in-Err-High-clause-stop : goal.returns-in_ok-kept-in-Err-High-clause-stop
-returns-in_ok-kept-in-Err-High-clause-stop g c =
-    let h = rw c.in-Err-High.field-0-is at c.in-Err-High.ensures.fault in
-    (h, λ u. Unfinished-TooHigh u h, c.in_ok-kept-in-Err-High.ensures)
+pub returns-in_ok-stop_of-in-Err-clause-stop : goal.returns-in_ok-stop_of-in-Err-clause-stop
+returns-in_ok-stop_of-in-Err-clause-stop g c =
+    stop_told (Unit {0}) (Unit {0}) _ _ g.K.Coeff.field _ g.O.Order.key c.args.list.now c.in-Err.fault _ (λ u h. Unfinished-TooHigh u h) c.in-Err.ensures.fault c.in_ok-stop_of-in-Err.ensures

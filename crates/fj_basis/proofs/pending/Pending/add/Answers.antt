@@ -1,4 +1,4 @@
-use Rattle.std.proofs.Common.{◌≡◌, ◌<◌, ◌++◌, ◌∷◌, ◌+◌, [], List, ℕ, length, length-append, map, get_or, refl, sym, ap, ap₂, ◌∙◌, subst, subst₂, arith}
+use Rattle.std.proofs.Common.{◌≡◌, ◌∷◌, ◌+◌, [], length, length-append, get_or, sym, ap, ◌∙◌, subst, subst₂, arith}
 use Rattle.std.proofs.lemmas.List.{length-map}
 use Rattle.fj_basis.specs.Pending.{HasPairsUpTo}
 use Rattle.fj_basis.proofs.PendingIndex.{pair-over, row-at}

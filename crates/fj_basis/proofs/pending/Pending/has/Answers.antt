@@ -1,4 +1,4 @@
-use Rattle.std.proofs.Common.{◌≡◌, ◌<◌, ◌⊎◌, length, IsTrue, refl, sym, ap, ◌∙◌, subst, arith}
+use Rattle.std.proofs.Common.{◌⊎◌, length, IsTrue, refl, ap, subst, arith}
 use Rattle.fj_basis.specs.Pending.{HasPair}
 use Rattle.fj_basis.proofs.PendingIndex.{bit-at, row-long, told-earlier, told-later}
 use Rattle.fj_basis.proofs.pending.Pending.has.Goals as goal

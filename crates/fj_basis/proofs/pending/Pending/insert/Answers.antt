@@ -1,4 +1,4 @@
-use Rattle.std.proofs.Common.{◌≡◌, ◌<◌, length, map, refl, sym, ap, ap₂, ◌∙◌, subst, subst₂, arith, true}
+use Rattle.std.proofs.Common.{◌<◌, length, map, refl, sym, ap, ap₂, ◌∙◌, subst, subst₂, arith, true}
 use Rattle.fj_basis.specs.Pending.{IsIndexed, IsPairOver}
 use Rattle.fj_basis.proofs.PendingIndex.{indexed-insert, mark, marked-rows, row-long}
 use Rattle.fj_basis.proofs.pending.Pending.insert.Goals as goal

@@ -1,4 +1,4 @@
-use Rattle.std.proofs.Common.{◌≡◌, ◌<◌, ◌⊎◌, inl, inr, ℕ, ◌+◌, ◌≤◌, length, ap, refl, sym, ◌∙◌, arith, true≢false}
+use Rattle.std.proofs.Common.{◌≡◌, ◌<◌, ◌⊎◌, inl, inr, ℕ, ◌+◌, length, ap, refl, sym, ◌∙◌, arith, true≢false}
 use Rattle.std.proofs.lemmas.List.{length-map}
 use Rattle.fj_basis.proofs.Sparing.{places-long}
 use Rattle.fj_basis.proofs.pending.Pending.is_spared.Goals as goal

@@ -1,4 +1,4 @@
-use Rattle.std.proofs.Common.{◌≡◌, ℕ, ◌<◌}
+use Rattle.std.proofs.Common.{◌<◌}
 use Rattle.fj_groebner.specs.Run as definition
 use Rattle.fj_groebner.specs.Run.{IsSpared}
 use Rattle.fj_basis.specs.State.{IsPendingOf}

@@ -1,7 +1,6 @@
-use Rattle.std.proofs.Common.{◌≡◌, ◌≢◌, ◌<◌, ◌⊎◌, ℕ, length, IsTrue, get_or, map, [], ap, ap₂, sym, ◌∙◌, subst, subst₂, refl, arith, true≢false}
+use Rattle.std.proofs.Common.{◌≡◌, ◌<◌, ◌⊎◌, ℕ, length, get_or, [], ap, ap₂, sym, ◌∙◌, subst, arith, true≢false}
 use Rattle.std.proofs.lemmas.List.{length-map}
 use Rattle.fj_theory.specs.Exponents.{divides, least_common_multiple}
-use Rattle.fj_groebner.specs.Run.{IsSpared}
 use Rattle.fj_mono.specs.Monomial.{Monomial}
 use Rattle.fj_basis.specs.Pending.{HasPair}
 use Rattle.fj_basis.proofs.PendingIndex.{row-at}

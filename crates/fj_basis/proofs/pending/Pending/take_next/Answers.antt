@@ -1,4 +1,4 @@
-use Rattle.std.proofs.Common.{◌≡◌, ◌<◌, length, map, refl, sym, ap, ap₂, ◌∙◌, subst, subst₂, arith, false}
+use Rattle.std.proofs.Common.{◌<◌, length, map, refl, sym, ap₂, ◌∙◌, subst, arith, false}
 use Rattle.std.proofs.lemmas.List.Elements.{All-head}
 use Rattle.fj_basis.specs.Pending.{IsIndexed}
 use Rattle.fj_basis.proofs.PendingIndex.{indexed-take, mark, marked-rows, row-long}

@@ -1,4 +1,4 @@
-use Rattle.std.proofs.Common.{◌≡◌, ◌≢◌, ◌<◌, length, map, replicate, All, ap, ap₂, ◌∙◌, sym, subst, subst₂, arith}
+use Rattle.std.proofs.Common.{◌≡◌, ◌≢◌, ◌<◌, length, All, refl, ap, ◌∙◌, sym, subst, subst₂, arith}
 use Rattle.std.specs.Option.{option_map}
 use Rattle.std.specs.FinMap.{empty}
 use Rattle.std.proofs.lemmas.Result.{err_from_is_err_and}
@@ -6,14 +6,13 @@ use Rattle.fj_theory.specs.Exponents.{origin}
 use Rattle.fj_theory.specs.Ideal.{ArePolynomials}
 use Rattle.fj_theory.specs.Lead.{lead_coefficient}
 use Rattle.fj_theory.specs.Polynomial.{product, term}
-use Rattle.fj_groebner.specs.Division.{AreWithinSugars, DegreeAtMost, IsLowDivision, degree_limit, polynomials_of}
+use Rattle.fj_groebner.specs.Division.{AreWithinSugars, DegreeAtMost, IsLowDivision, polynomials_of}
 use Rattle.fj_groebner.specs.Run.{s_polynomial}
+use Rattle.fj_groebner.proofs.Division.{IsDivision-quotients}
 use Rattle.fj_theory.proofs.Lead.{lead_coefficient-nonzero}
 use Rattle.fj_basis.specs.Members.{sugared_members}
-use Rattle.fj_basis.specs.Quotients.{AreQuotientsWithin}
-use Rattle.fj_basis.specs.State.{row_at, s_polynomial_row}
+use Rattle.fj_basis.specs.History.{HasRecordedMember}
 use Rattle.fj_basis.proofs.DivisionState.{lead-none, lead-parts, some-lead}
-use Rattle.fj_basis.proofs.FinishingRows.{quotients_within}
 use Rattle.fj_basis.proofs.HighOnly.{only_only}
 use Rattle.fj_basis.proofs.Leading.{places, state-good}
 use Rattle.fj_basis.proofs.NextMember.{high-start, monic-is}
@@ -60,26 +59,19 @@ returns-in_default-clause-value g c =
     record {
       last = c.in_ok-division.division;
       division = D;
-      found = sym c.remainder.ensures ∙ lead-none g.met.O.Order.monomial_order c.lead.ensures.polynomial (sym c.lead.ensures.lead ∙ ap (option_map _) c.in_default.is);
+      found = (sym c.remainder.ensures ∙ lead-none g.met.O.Order.monomial_order c.lead.ensures.polynomial (sym c.lead.ensures.lead ∙ ap (option_map _) c.in_default.is), refl);
     }
 
-pub remainder_row-requires-clause-quotients : goal.remainder_row-requires-clause-quotients
-remainder_row-requires-clause-quotients g c =
+pub record-requires-clause-quotients : goal.record-requires-clause-quotients
+record-requires-clause-quotients g c =
     let key = g.O.Order.key in
     let F = g.K.Coeff.field in
     let L = g.met.K.Coeff.lawful in
     let O = g.met.O.Order.monomial_order in
-    let items = c.args.self.now.members.items in
-    let G = sugared_members items in
+    let G = sugared_members c.args.self.now.members.items in
     let good = state-good L O c.requires.state in
-    let i = c.args.pair.now.i in
-    let j = c.args.pair.now.j in
-    let first = c.requires.first in
-    let second = c.requires.second in
-    let l : i < length items = omega (arith, first, second) in
     let D = subst₂ (λ ms h. IsLowDivision F key (sugared_members ms) h c.in_ok-division.division) c.deref.ensures.value c.in_ok-s.ensures.value c.in_ok-division.ensures.value in
-    subst (AreQuotientsWithin F G degree_limit) (sym c.quotients.ensures)
-    (quotients_within L O G good.polynomials good.nonzero good.within (good.s_is i j) (good.s_within i j (places items i l) (places items j second)) D)
+    subst (ArePolynomials F) (sym c.quotients.ensures) (IsDivision-quotients O L G good.polynomials good.nonzero (good.s_is c.args.pair.now.i c.args.pair.now.j) D.division)
 
 pub inv-inverse-requires : goal.inv-inverse-requires
 inv-inverse-requires g c =
@@ -95,21 +87,23 @@ returns-clause-value g c =
     let key = g.O.Order.key in
     let F = g.K.Coeff.field in
     let O = g.met.O.Order.monomial_order in
+    let G = sugared_members c.args.self.now.members.items in
     let D = subst₂ (λ ms h. IsLowDivision F key (sugared_members ms) h c.in_ok-division.division) c.deref.ensures.value c.in_ok-s.ensures.value c.in_ok-division.ensures.value in
     let last = c.in_ok-division.division in
     let is = sym c.in-Some.ensures.lead in
     let parts = lead-parts key c.remainder.result.now _ is in
     let some : last.remainder ≢ empty = subst (λ f. f ≢ empty) c.remainder.ensures (some-lead F O is) in
     let inverse : g.K.Coeff.rank c.inv-inverse.result ≡ F.inverse (lead_coefficient key last.remainder) = c.inv-inverse.ensures ∙ ap F.inverse (sym parts.1 ∙ ap (lead_coefficient key) c.remainder.ensures) in
+    let monic =
+    monic-is F key (record { polynomial = last.remainder; sugar = last.sugar }) _ _ (g.K.Coeff.rank c.inv-inverse.result) inverse
+    (c.in_ok-scale.ensures.value ∙ ap (product F (term (g.K.Coeff.rank c.inv-inverse.result) origin)) c.into_parts-remainder.ensures.remainder) c.into_parts-remainder.ensures.sugar in
     record {
       last = last;
       division = D;
       found = (
         some,
-        monic-is F key (record { polynomial = last.remainder; sugar = last.sugar }) _ _ (g.K.Coeff.rank c.inv-inverse.result) inverse
-            (c.in_ok-scale.ensures.value ∙ ap (product F (term (g.K.Coeff.rank c.inv-inverse.result) origin)) c.into_parts-remainder.ensures.remainder) c.into_parts-remainder.ensures.sugar,
-        c.in_ok-row.ensures ∙ ap₂ (λ n row. map (product F (term n origin)) row) inverse
-            (c.deref-2.ensures.value ∙ c.in_ok-cofactors.ensures.value
-            ∙ ap (s_polynomial_row F key c.args.self.now.members.items (replicate (length (row_at c.args.self.now.members.items c.args.pair.now.i)) empty) (c.args.pair.now.i, c.args.pair.now.j)) c.quotients.ensures),
+        monic,
+        c.len.ensures ∙ c.record.new.self.members.ok.0 ∙ ap (λ v. length v.items) c.in_ok-record.ensures.members,
+        subst (λ m. HasRecordedMember F G m c.args.self.now.history c.record.new.self.history) (sym monic) (c.in_ok-record.ensures.recorded last D c.quotients.ensures some inverse),
       );
     }
