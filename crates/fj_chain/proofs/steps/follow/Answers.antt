@@ -1,6 +1,6 @@
 use Rattle.std.proofs.Common.{◌∷◌, sym}
 use Rattle.fj_chain.specs.Lists.{IsStepFor}
-use Rattle.fj_chain.proofs.StepLists.{next_list, step_handed_on, this_step, used_more}
+use Rattle.fj_chain.proofs.StepLists.{next_reduced_list, step_handed_on, this_step, used_more}
 use Rattle.fj_chain.proofs.steps.follow.Goals as goal
 
 pub returns-in_err-reached-2-clause-stop : goal.returns-in_err-reached-2-clause-stop
@@ -18,7 +18,7 @@ loop-left-preserved g c =
       (
         c.from.result ∷ inv.0.0,
         used_more c.args.digits.now c.loop-left.left.now inv.0.0 c.from.result inv.0.1 c.in-len1-up.len_at_least (sym c.from.ensures),
-        (c.loop-left.reached.given, inv.0.2, next_list F c.args.f.now c.args.pairs (IsStepFor F c.args.f.now c.args.digits.now c.args.start.now.given) c.from.result inv.1 c.in_ok-reached-2.ensures.list),
+        (c.loop-left.reached.given, inv.0.2, next_reduced_list F c.args.f.now c.args.pairs (IsStepFor F c.args.f.now c.args.digits.now c.args.start.now.given) c.from.result inv.1 c.in_ok-reached-2.ensures.list),
       ),
       c.in_ok-reached-2.ensures.ideal,
     )
