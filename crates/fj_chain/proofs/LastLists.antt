@@ -1,5 +1,5 @@
 -- The last list of a limit is one of its lists.
-use Rattle.std.proofs.Common.{◌≡◌, inl, inr, ℕ, zero, suc, arith, ◌∷◌, [], List, sym, subst}
+use Rattle.std.proofs.Common.{inl, inr, ℕ, zero, suc, arith, ◌∷◌, [], List, sym, subst}
 use Rattle.fj_coeff.specs.Field.{Field}
 use Rattle.fj_theory.specs.Digits.{Expansion}
 use Rattle.fj_theory.specs.Fraction.{Fraction}

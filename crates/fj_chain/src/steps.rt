@@ -52,9 +52,13 @@ pub(crate) fn follow<K: Coeff>(
     ensures ideal { IfOk result (IsReduced K.field) }
     ensures stop { StopsOnlyWith K.field (RunFor orders.Grevlex (IsListOfStep K.field f.now (IsStepFor K.field f.now digits.now start.now.given))) (IsHighInStep K.field f.now (IsStepFor K.field f.now digits.now start.now.given)) pairs result }
 {
-    let mut reached = start.copy(alloc)?;
-    let _ = reached.given();
-    let mut left = digits;
+    // The members of the start are its reduced basis.
+    let _ = start.given();
+    let [others @ .., lowest] = digits else {
+        return Ok(start.copy(alloc)?);
+    };
+    let mut reached = reduced_root_of_multiples(alloc, u64::from(*lowest), f, start, pairs)?;
+    let mut left = others;
     while let [higher @ .., digit] = left {
         reached = reduced_root_of_multiples(alloc, u64::from(*digit), f, &reached, pairs)?;
         left = higher;
