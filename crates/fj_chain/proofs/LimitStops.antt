@@ -7,7 +7,7 @@ use Rattle.fj_theory.specs.Fraction.{Fraction}
 use Rattle.fj_theory.specs.Polynomial.{Polynomial}
 use Rattle.fj_plain.specs.declared.order_name.OrderName.TheVariants.{Grevlex}
 use Rattle.fj_basis.specs.declared.stop.Stop.{Stop}
-use Rattle.fj_ideal.specs.Ideal.{IsIdeal, WithBasis}
+use Rattle.fj_ideal.specs.Reduced.{IsReduced, WithMembers}
 use Rattle.fj_ideal.specs.Lists.{RunFor}
 use Rattle.fj_ideal.specs.Stop.{IsCauseOf, IsWritten, StopsOnlyWith}
 use Rattle.fj_ideal.proofs.Stops.{only_handed_on, only_of_more}
@@ -36,7 +36,7 @@ module _ (F : Field) (f : Polynomial) (t : Fraction) (h : Polynomial) (budget : 
       s r is cause
 
   -- The multiples at the end stop.
-  pub limit_whole_stop : 0 < k → {J : WithBasis} → IsIdeal F J → LimitLeadsTo F f d (h ∷ []) J.given → {T : Type 0} (r : Result T Stop)
+  pub limit_whole_stop : 0 < k → {J : WithMembers} → IsReduced F J → LimitLeadsTo F f d (h ∷ []) J.given → {T : Type 0} (r : Result T Stop)
       → StopsOnlyWith F (RunFor Grevlex (IsMultipleList F k f J.members)) (IsHighMultiple F k f J.members) budget r
       → StopsOnlyWith F (RunFor Grevlex (IsLimitList F f t h)) (IsHighInLimit F f t h) budget r
   limit_whole_stop some {J} I leads r stops =
@@ -46,7 +46,7 @@ module _ (F : Field) (f : Polynomial) (t : Fraction) (h : Polynomial) (budget : 
       r stops
 
 -- The list of the multiples at the end is the last one.
-pub last_whole : (F : Field) (f : Polynomial) (t : Fraction) (h : Polynomial) (k : ℕ) (d : Expansion) → IsWholeAndDigits F.characteristic t k d → 0 < k → {J : WithBasis} → IsIdeal F J → LimitLeadsTo F f d (h ∷ []) J.given
+pub last_whole : (F : Field) (f : Polynomial) (t : Fraction) (h : Polynomial) (k : ℕ) (d : Expansion) → IsWholeAndDigits F.characteristic t k d → 0 < k → {J : WithMembers} → IsReduced F J → LimitLeadsTo F f d (h ∷ []) J.given
     → (L : List Polynomial) → IsMultipleList F k f J.members L → IsLastLimitList F f t h L
 last_whole F f t h zero d w some I leads L is = absurd (omega (arith, some))
 last_whole F f t h (suc k) d w some {J} I leads L is =

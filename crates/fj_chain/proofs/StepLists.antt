@@ -8,6 +8,7 @@ use Rattle.fj_plain.specs.declared.order_name.OrderName.TheVariants.{Grevlex}
 use Rattle.fj_basis.specs.declared.stop.Stop.{Stop}
 use Rattle.fj_ideal.specs.Ideal.{IsIdeal, WithBasis}
 use Rattle.fj_ideal.specs.Lists.{RunFor}
+use Rattle.fj_ideal.specs.Reduced.{IsReduced, WithMembers}
 use Rattle.fj_ideal.specs.Stop.{IsCauseOf, IsWritten, StopsOnlyWith}
 use Rattle.fj_ideal.proofs.Stops.{only_handed_on}
 use Rattle.fj_frobenius.specs.Lists.{IsHighMultiple, IsStepList}
@@ -33,12 +34,17 @@ module _ (F : Field) (f : Polynomial) (budget : ℕ) (IsStep : ℕ → List Poly
   pub next_list : {N : List Polynomial} → IsStepList F d f J.members N → IsNextList F f d J.given N
   next_list s = record { members = J.members; reduced = I.reduced; holds = s }
 
+module _ (F : Field) (f : Polynomial) (budget : ℕ) (IsStep : ℕ → List Polynomial → Type 0) (d : ℕ) {J : WithMembers} (I : IsReduced F J) where
+  -- The same for an ideal that is kept without cofactors.
+  pub next_reduced_list : {N : List Polynomial} → IsStepList F d f J.members N → IsNextList F f d J.given N
+  next_reduced_list s = record { members = J.members; reduced = I.reduced; holds = s }
+
   -- A step that stops has its cause among the steps.
   pub step_handed_on : IsStep d J.given → {T : Type 0} (s : Stop) (r : Result T Stop) → IsErrAnd r (λ y. y ≡ s)
       → IsCauseOf F (RunFor Grevlex (IsStepList F d f J.members)) (IsHighMultiple F d f J.members) budget s × IsWritten F s
       → StopsOnlyWith F (RunFor Grevlex (IsListOfStep F f IsStep)) (IsHighInStep F f IsStep) budget r
   step_handed_on here s r is h =
       only_handed_on F budget (RunFor Grevlex (IsStepList F d f J.members)) (RunFor Grevlex (IsListOfStep F f IsStep)) (IsHighMultiple F d f J.members) (IsHighInStep F f IsStep)
-      (λ o N e. (e.0, record { digit = d; from = J.given; step = here; next = next_list e.1 }))
+      (λ o N e. (e.0, record { digit = d; from = J.given; step = here; next = next_reduced_list e.1 }))
       (λ N e. record { digit = d; from = J.given; step = here; high = record { members = J.members; reduced = I.reduced; holds = e } })
       s r is h

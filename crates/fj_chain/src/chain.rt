@@ -6,6 +6,7 @@ ghost use Rattle.fj_theory.specs.Polynomial.{IsPolynomial, degree, term};
 ghost use Rattle.fj_plain.specs.declared.order_name.OrderName.TheVariants as orders;
 ghost use Rattle.fj_ideal.specs.Ideal.{IsIdeal};
 ghost use Rattle.fj_ideal.specs.Lists.{RunFor};
+ghost use Rattle.fj_ideal.specs.Reduced.{IsReduced};
 ghost use Rattle.fj_ideal.specs.Stop.{StopsOnlyWith};
 ghost use Rattle.fj_testideal.specs.BoundedIdeal.{number_of, occurs_in};
 ghost use Rattle.fj_testideal.specs.Chain.{IsLimit, IsNumberOfFallingPeriods, IsNumberOfRisingPeriods};
@@ -15,7 +16,7 @@ ghost use Rattle.fj_chain.specs.Lists.{ChainEndsWith, IsChainList, IsHighInChain
 use crate::steps::follow;
 use fj_basis::Stop;
 use fj_coeff::Coeff;
-use fj_ideal::Ideal;
+use fj_ideal::{Ideal, Reduced};
 use fj_mono::Mono;
 use fj_poly::{GPoly, Poly};
 use fj_ratio::Digits;
@@ -44,7 +45,9 @@ pub fn rising<K: Coeff>(
     ensures ideal { IfOk result (λ r. IsIdeal K.field r.0) }
     ensures stop { StopsOnlyWith K.field (RunFor orders.Grevlex (IsChainList K.field f.now u.now.period f.now)) (IsHighInChain K.field f.now u.now.period f.now) pairs result }
 {
-    chain_from(alloc, f, f, u, pairs)
+    let (limit, periods) = chain_from(alloc, f, f, u, pairs)?;
+    let ideal = limit.with_cofactors(alloc, pairs)?;
+    Ok((ideal, periods))
 }
 
 /// The same for the period's chain from (1).
@@ -64,7 +67,9 @@ pub fn falling<K: Coeff>(
     ensures stop { StopsOnlyWith K.field (RunFor orders.Grevlex (IsChainList K.field f.now u.now.period (term 1 origin))) (IsHighInChain K.field f.now u.now.period (term 1 origin)) pairs result }
 {
     let unit = one(alloc)?;
-    chain_from(alloc, &unit, f, u, pairs)
+    let (limit, periods) = chain_from(alloc, &unit, f, u, pairs)?;
+    let ideal = limit.with_cofactors(alloc, pairs)?;
+    Ok((ideal, periods))
 }
 
 /// The polynomial 1.
@@ -75,27 +80,27 @@ pub(crate) fn one<K: Coeff>(alloc: Global) -> Result<GPoly<K>, AllocError>
 }
 
 /// The chain of the period from (first), which is (f) or (1), up to its first repeat: its last ideal, and the number of
-/// periods applied.
+/// periods applied. No cofactor is formed.
 pub(crate) fn chain_from<K: Coeff>(
     alloc: Global,
     first: &GPoly<K>,
     f: &GPoly<K>,
     u: &Digits,
     pairs: u64,
-) -> Result<(Ideal<K>, u64), Stop>
+) -> Result<(Reduced<K>, u64), Stop>
     requires prime { u.now.prime ≡ K.P }
     requires admissible { IsAdmissible f.now }
     requires first { (first.now ≡ f.now) ⊎ (first.now ≡ term 1 origin) }
     ensures chain { IfOk result (λ r. (end : ChainEndsWith K.field f.now u.now.period (first.now ∷ []) r.0.given) × (r.1 ≡ end.periods + 1)) }
     ensures polynomial { IsPolynomial K.field f.now }
     ensures below { All (λ d. d < K.field.characteristic) u.now.period }
-    ensures ideal { IfOk result (λ r. IsIdeal K.field r.0) }
+    ensures ideal { IfOk result (λ r. IsReduced K.field r.0) }
     ensures stop { StopsOnlyWith K.field (RunFor orders.Grevlex (IsChainList K.field f.now u.now.period first.now)) (IsHighInChain K.field f.now u.now.period first.now) pairs result }
 {
     // f is a polynomial over K.
     let _ = f.is_zero();
     let period = u.period();
-    let mut last = Ideal::of(alloc, slice::from_ref(first), pairs)?;
+    let mut last = Reduced::of(alloc, slice::from_ref(first), pairs)?;
     for periods in 0..u64::MAX {
         let next = follow(alloc, f, period, &last, pairs)?;
         if next.same(&last) {

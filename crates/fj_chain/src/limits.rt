@@ -6,6 +6,7 @@ ghost use Rattle.fj_theory.specs.Polynomial.{IsPolynomial, power, term};
 ghost use Rattle.fj_plain.specs.declared.order_name.OrderName.TheVariants as orders;
 ghost use Rattle.fj_ideal.specs.Ideal.{IsIdeal};
 ghost use Rattle.fj_ideal.specs.Lists.{RunFor};
+ghost use Rattle.fj_ideal.specs.Reduced.{IsReduced};
 ghost use Rattle.fj_ideal.specs.Stop.{StopsOnlyWith};
 ghost use Rattle.fj_testideal.specs.Jump.{IsJump};
 ghost use Rattle.fj_testideal.specs.TestIdeal.{IsLeftLimit, IsTestIdeal};
@@ -18,7 +19,7 @@ use crate::multiples::ideal_of_multiples;
 use crate::steps::follow;
 use fj_basis::Stop;
 use fj_coeff::Coeff;
-use fj_ideal::Ideal;
+use fj_ideal::{Ideal, Reduced};
 use fj_poly::GPoly;
 use fj_ratio::{Digits, Ratio};
 use std::alloc::Global;
@@ -42,13 +43,8 @@ pub fn test_ideal<K: Coeff>(
     ensures ideal { IfOk result (IsIdeal K.field) }
     ensures stop { StopsOnlyWith K.field (RunFor orders.Grevlex (IsTestList K.field f.now t.now)) (IsHighInTest K.field f.now t.now) pairs result }
 {
-    // f is a polynomial over K.
-    let _ = f.is_zero();
-    if t.num() == 0 {
-        let unit = one(alloc)?;
-        return Ideal::of(alloc, slice::from_ref(&unit), pairs);
-    }
-    limit_from(alloc, f, f, t, pairs)
+    let reduced = reduced_test_ideal(alloc, f, t, pairs)?;
+    reduced.with_cofactors(alloc, pairs)
 }
 
 /// The limit from the left of the test ideals of f at t, for 0 < t <= 8, each list run with at most `pairs` turns. f isn't
@@ -70,10 +66,8 @@ pub fn left_limit<K: Coeff>(
     ensures ideal { IfOk result (IsIdeal K.field) }
     ensures stop { StopsOnlyWith K.field (RunFor orders.Grevlex (IsLeftList K.field f.now t.now)) (IsHighInLeft K.field f.now t.now) pairs result }
 {
-    // f is a polynomial over K.
-    let _ = f.is_zero();
-    let unit = one(alloc)?;
-    limit_from(alloc, &unit, f, t, pairs)
+    let reduced = reduced_left_limit(alloc, f, t, pairs)?;
+    reduced.with_cofactors(alloc, pairs)
 }
 
 /// Whether t is an F-jumping number of f, for 0 < t <= 8: the test ideal and its limit from the left differ there (Blickle,
@@ -92,25 +86,67 @@ pub fn is_jump<K: Coeff>(alloc: Global, f: &GPoly<K>, t: &Ratio, pairs: u64) -> 
 {
     // f is a polynomial over K.
     let _ = f.is_zero();
-    let at = test_ideal(alloc, f, t, pairs)?;
-    let left = left_limit(alloc, f, t, pairs)?;
+    let at = reduced_test_ideal(alloc, f, t, pairs)?;
+    let left = reduced_left_limit(alloc, f, t, pairs)?;
     Ok(!left.same(&at))
 }
 
-// The limit at t > 0 of the chain from (first), which is (f) or (1).
+// The test ideal, without cofactors.
+fn reduced_test_ideal<K: Coeff>(
+    alloc: Global,
+    f: &GPoly<K>,
+    t: &Ratio,
+    pairs: u64,
+) -> Result<Reduced<K>, Stop>
+    requires at_most { t.now.numerator ≤ 8 * t.now.denominator }
+    requires admissible { IsAdmissible f.now }
+    ensures value { IfOk result (λ J. IsTestIdeal K.field f.now t.now J.given) }
+    ensures list { IfOk result (λ J. IsLastTestList K.field f.now t.now J.given) }
+    ensures stop { StopsOnlyWith K.field (RunFor orders.Grevlex (IsTestList K.field f.now t.now)) (IsHighInTest K.field f.now t.now) pairs result }
+{
+    // f is a polynomial over K.
+    let _ = f.is_zero();
+    if t.num() == 0 {
+        let unit = one(alloc)?;
+        return Reduced::of(alloc, slice::from_ref(&unit), pairs);
+    }
+    limit_from(alloc, f, f, t, pairs)
+}
+
+// The limit from the left, without cofactors.
+fn reduced_left_limit<K: Coeff>(
+    alloc: Global,
+    f: &GPoly<K>,
+    t: &Ratio,
+    pairs: u64,
+) -> Result<Reduced<K>, Stop>
+    requires above_zero { 0 < t.now.numerator }
+    requires at_most { t.now.numerator ≤ 8 * t.now.denominator }
+    requires admissible { IsAdmissible f.now }
+    ensures value { IfOk result (λ J. IsLeftLimit K.field f.now t.now J.given) }
+    ensures list { IfOk result (λ J. IsLastLeftList K.field f.now t.now J.given) }
+    ensures stop { StopsOnlyWith K.field (RunFor orders.Grevlex (IsLeftList K.field f.now t.now)) (IsHighInLeft K.field f.now t.now) pairs result }
+{
+    // f is a polynomial over K.
+    let _ = f.is_zero();
+    let unit = one(alloc)?;
+    limit_from(alloc, &unit, f, t, pairs)
+}
+
+// The limit at t > 0 of the chain from (first), which is (f) or (1), without cofactors.
 fn limit_from<K: Coeff>(
     alloc: Global,
     first: &GPoly<K>,
     f: &GPoly<K>,
     t: &Ratio,
     pairs: u64,
-) -> Result<Ideal<K>, Stop>
+) -> Result<Reduced<K>, Stop>
     requires above_zero { 0 < t.now.numerator }
     requires at_most { t.now.numerator ≤ 8 * t.now.denominator }
     requires admissible { IsAdmissible f.now }
     requires first { (first.now ≡ f.now) ⊎ (first.now ≡ term 1 origin) }
     ensures list { IfOk result (λ J. IsLastLimitList K.field f.now t.now first.now J.given) }
-    ensures ideal { IfOk result (IsIdeal K.field) }
+    ensures ideal { IfOk result (IsReduced K.field) }
     ensures stop { StopsOnlyWith K.field (RunFor orders.Grevlex (IsLimitList K.field f.now t.now first.now)) (IsHighInLimit K.field f.now t.now first.now) pairs result }
 {
     let (whole, rest) = t.split_whole();

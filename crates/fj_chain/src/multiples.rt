@@ -1,8 +1,8 @@
 //! Multiples of an ideal by a power of f.
 ghost use Rattle.std.specs.Prelude.{◌≤◌, IfOk};
 ghost use Rattle.fj_plain.specs.declared.order_name.OrderName.TheVariants as orders;
-ghost use Rattle.fj_ideal.specs.Ideal.{IsIdeal};
 ghost use Rattle.fj_ideal.specs.Lists.{NoList, RunFor};
+ghost use Rattle.fj_ideal.specs.Reduced.{IsReduced};
 ghost use Rattle.fj_ideal.specs.Stop.{StopsOnlyWith};
 ghost use Rattle.fj_frobenius.specs.Lists.{IsHighMultiple};
 ghost use Rattle.fj_chain.specs.Admissible.{IsAdmissible};
@@ -10,7 +10,7 @@ ghost use Rattle.fj_chain.specs.Lists.{IsMultipleList};
 
 use fj_basis::Stop;
 use fj_coeff::Coeff;
-use fj_ideal::{Ideal, kept_pair};
+use fj_ideal::{Reduced, kept_pair};
 use fj_poly::{GPoly, PolyFault};
 use std::alloc::Global;
 
@@ -19,17 +19,17 @@ pub(crate) fn ideal_of_multiples<K: Coeff>(
     alloc: Global,
     k: u64,
     f: &GPoly<K>,
-    ideal: &Ideal<K>,
+    ideal: &Reduced<K>,
     pairs: u64,
-) -> Result<Ideal<K>, Stop>
+) -> Result<Reduced<K>, Stop>
     requires small { k ≤ 8 }
     requires admissible { IsAdmissible f.now }
     ensures list { IfOk result (λ J. IsMultipleList K.field k f.now ideal.now.members J.given) }
-    ensures ideal { IfOk result (IsIdeal K.field) }
+    ensures ideal { IfOk result (IsReduced K.field) }
     ensures stop { StopsOnlyWith K.field (RunFor orders.Grevlex (IsMultipleList K.field k f.now ideal.now.members)) (IsHighMultiple K.field k f.now ideal.now.members) pairs result }
 {
     let list = multiples(alloc, k, f, ideal.members())?;
-    Ideal::of_owned(alloc, list, pairs)
+    Reduced::of_owned(alloc, list, pairs)
 }
 
 // The multiples f^k*g of the polynomials g of a list, in order.

@@ -6,14 +6,15 @@ ghost use Rattle.fj_theory.specs.Root.{IsRoot};
 ghost use Rattle.fj_plain.specs.declared.order_name.OrderName.TheVariants as orders;
 ghost use Rattle.fj_ideal.specs.Ideal.{IsIdeal};
 ghost use Rattle.fj_ideal.specs.Lists.{RunFor};
+ghost use Rattle.fj_ideal.specs.Reduced.{IsReduced};
 ghost use Rattle.fj_ideal.specs.Stop.{StopsOnlyWith};
 ghost use Rattle.fj_frobenius.specs.Lists.{IsHighMultiple, IsStepList};
 ghost use Rattle.fj_chain.specs.Lists.{IsHighInStep, IsListOfStep, IsStepFor, LeadTo};
 
 use fj_basis::Stop;
 use fj_coeff::Coeff;
-use fj_frobenius::root_of_multiples;
-use fj_ideal::Ideal;
+use fj_frobenius::{reduced_root_of_multiples, root_of_multiples};
+use fj_ideal::{Ideal, Reduced};
 use fj_poly::GPoly;
 use std::alloc::Global;
 
@@ -38,23 +39,28 @@ pub fn step<K: Coeff>(
     root_of_multiples(alloc, d, f, ideal, pairs)
 }
 
-/// The steps of an ideal for the digits of a number, which come the highest first: the last one is used first.
+/// The steps of an ideal for the digits of a number, which come the highest first: the last one is used first. No cofactor is
+/// formed.
 pub(crate) fn follow<K: Coeff>(
     alloc: Global,
     f: &GPoly<K>,
     digits: &[u8],
-    start: &Ideal<K>,
+    start: &Reduced<K>,
     pairs: u64,
-) -> Result<Ideal<K>, Stop>
+) -> Result<Reduced<K>, Stop>
     ensures list { IfOk result (λ J. LeadTo K.field f.now digits.now start.now.given J.given) }
-    ensures ideal { IfOk result (IsIdeal K.field) }
+    ensures ideal { IfOk result (IsReduced K.field) }
     ensures stop { StopsOnlyWith K.field (RunFor orders.Grevlex (IsListOfStep K.field f.now (IsStepFor K.field f.now digits.now start.now.given))) (IsHighInStep K.field f.now (IsStepFor K.field f.now digits.now start.now.given)) pairs result }
 {
-    let mut reached = start.copy(alloc)?;
-    let _ = reached.given();
-    let mut left = digits;
+    // The members of the start are its reduced basis.
+    let _ = start.given();
+    let [others @ .., lowest] = digits else {
+        return Ok(start.copy(alloc)?);
+    };
+    let mut reached = reduced_root_of_multiples(alloc, u64::from(*lowest), f, start, pairs)?;
+    let mut left = others;
     while let [higher @ .., digit] = left {
-        reached = step(alloc, u64::from(*digit), f, &reached, pairs)?;
+        reached = reduced_root_of_multiples(alloc, u64::from(*digit), f, &reached, pairs)?;
         left = higher;
     }
     Ok(reached)

@@ -5,4 +5,4 @@ mod power;
 mod root;
 
 pub use power::frobenius_power;
-pub use root::{frobenius_root, root_of_multiples};
+pub use root::{frobenius_root, reduced_root_of_multiples, root_of_multiples};

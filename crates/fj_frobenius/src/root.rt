@@ -9,12 +9,13 @@ ghost use Rattle.fj_poly.specs.Limit.{IsHigh};
 ghost use Rattle.fj_basis.specs.Outcome.{AreWritten};
 ghost use Rattle.fj_ideal.specs.Ideal.{IsIdeal};
 ghost use Rattle.fj_ideal.specs.Lists.{NoList, NoProduct, RunFor};
+ghost use Rattle.fj_ideal.specs.Reduced.{IsReduced};
 ghost use Rattle.fj_ideal.specs.Stop.{IsProductOf, StopsOnlyWith, key_of};
 ghost use Rattle.fj_frobenius.specs.Lists.{IsHighMultiple, IsRootList, IsStepList};
 
 use fj_basis::Stop;
 use fj_coeff::Coeff;
-use fj_ideal::{Ideal, kept_pair};
+use fj_ideal::{Ideal, Reduced, kept_pair};
 use fj_plain::Kept;
 use fj_poly::{GPoly, PolyFault};
 use fj_root::{root_gens, root_list};
@@ -64,6 +65,29 @@ pub fn root_of_multiples<K: Coeff>(
     let _ = f.is_zero();
     let list = step_list(alloc, d, f, ideal.members())?;
     Ideal::of_owned(alloc, list, pairs)
+}
+
+/// The same step among ideals that are kept without cofactors: the Frobenius root at 1 of the multiples f^d*J, made of the
+/// parts at 1 of f^d*g for the members g of J, in order, with at most `pairs` turns.
+///
+/// It stops as `root_of_multiples` does.
+pub fn reduced_root_of_multiples<K: Coeff>(
+    alloc: Global,
+    d: u64,
+    f: &GPoly<K>,
+    ideal: &Reduced<K>,
+    pairs: u64,
+) -> Result<Reduced<K>, Stop>
+    ensures list { IfOk result (λ J. IsStepList K.field d f.now ideal.now.members J.given) }
+    ensures ideal { IfOk result (IsReduced K.field) }
+    ensures root { IfOk result (λ J. IsRoot K.field (K.field.characteristic ^ 1) (multiples K.field (power K.field f.now d) ideal.now.given) J.given) }
+    ensures stop { StopsOnlyWith K.field (RunFor orders.Grevlex (IsStepList K.field d f.now ideal.now.members)) (IsHighMultiple K.field d f.now ideal.now.members) pairs result }
+{
+    // f is a polynomial over K.
+    let _ = f.is_zero();
+    let members = ideal.members();
+    let list = step_list(alloc, d, f, members)?;
+    Reduced::of_owned(alloc, list, pairs)
 }
 
 // The parts at 1 of f^d*g for the polynomials g of a list, in order.

@@ -74,6 +74,32 @@ module _ {F : Field} (L : IsField F) where
       at a A true e = ap (coefficient f) (same_true a origin e) ∙ at_origin ∙ sym (coefficient-term 1 origin a ∙ ap (λ t. cond t 1 0) e)
       at a A false e = none a A e (coefficient f a) refl ∙ sym (coefficient-term 1 origin a ∙ ap (λ t. cond t 1 0) e)
 
+  -- A list M of polynomials and the reduced basis G of its ideal.
+  module _ {M G : List Polynomial} (P : ArePolynomials F M) (S : IsReducedBasis F grevlex_key M G) where
+    -- The ideal is the unit ideal exactly where its basis is one polynomial, of degree 0.
+    one_member : Member F M (term 1 origin) → G ≡ term 1 origin ∷ []
+    one_member m = IsReducedBasis-unique grevlex L P P (SameIdeal-refl L P) S ((IsReducedBasis-one grevlex L P).1 m)
+
+    -- The ideal is the unit ideal exactly where its basis is one polynomial, of degree 0.
+    pub unit_from_member : (g : Polynomial) → G ≡ g ∷ [] → (degree g ≡ Some 0) ↔ Member F M (term 1 origin)
+    unit_from_member g e = (
+      λ d.
+          let Q : IsPolynomial F g = All-head (IsPolynomial F) g [] (subst (All (IsPolynomial F)) e (IsReducedBasis_polynomials grevlex L P S).each) in
+          let monic : lead_coefficient grevlex_key g ≡ 1 = All-head (λ f. lead_coefficient grevlex_key f ≡ 1) g [] (subst (All (λ f. lead_coefficient grevlex_key f ≡ 1)) e S.monic) in
+          (IsReducedBasis-one grevlex L P).0 (subst (IsReducedBasis F grevlex_key M) (e ∙ ap (λ f. f ∷ []) (one_from_degree Q monic d)) S),
+      λ m.
+          let is : g ∷ [] ≡ term 1 origin ∷ [] = sym e ∙ one_member m in
+          let one : g ≡ term 1 origin = cc in
+          ap degree one ∙ degree-term F 1 (omega arith) (one_below L) IsExponents-origin ∙ ap Some total_origin,
+    )
+
+    pub unit_is_single : Member F M (term 1 origin) → length G ≡ 1
+    unit_is_single m = ap length (one_member m)
+
+    -- Of another list and its basis: the ideals are equal exactly where the bases are.
+    pub same_bases : {N H : List Polynomial} → ArePolynomials F N → IsReducedBasis F grevlex_key N H → SameIdeal F M N ↔ (G ≡ H)
+    same_bases Q T = SameIdeal-IsReducedBasis grevlex L P Q S T
+
   module _ {J : WithBasis} (I : IsIdeal F J) where
     pub ArePolynomials-members : ArePolynomials F J.members
     ArePolynomials-members = IsReducedBasis_polynomials grevlex L I.polynomials I.reduced
@@ -83,27 +109,6 @@ module _ {F : Field} (L : IsField F) where
 
     pub SameIdeal-members : SameIdeal F J.given J.members
     SameIdeal-members = IsReducedBasis-SameIdeal grevlex L I.polynomials I.reduced
-
-    -- The ideal is the unit ideal exactly where its basis is one polynomial, of degree 0.
-    one_member : Member F J.given (term 1 origin) → J.members ≡ term 1 origin ∷ []
-    one_member m =
-        IsReducedBasis-unique grevlex L I.polynomials I.polynomials (SameIdeal-refl L I.polynomials) I.reduced ((IsReducedBasis-one grevlex L I.polynomials).1 m)
-
-    -- The ideal is the unit ideal exactly where its basis is one polynomial, of degree 0.
-    pub unit_from_member : (g : Polynomial) → J.members ≡ g ∷ [] → (degree g ≡ Some 0) ↔ Member F J.given (term 1 origin)
-    unit_from_member g e = (
-      λ d.
-          let P : IsPolynomial F g = All-head (IsPolynomial F) g [] (subst (All (IsPolynomial F)) e ArePolynomials-members.each) in
-          let monic : lead_coefficient grevlex_key g ≡ 1 = All-head (λ f. lead_coefficient grevlex_key f ≡ 1) g [] (subst (All (λ f. lead_coefficient grevlex_key f ≡ 1)) e I.reduced.monic) in
-          (IsReducedBasis-one grevlex L I.polynomials).0 (subst (IsReducedBasis F grevlex_key J.given) (e ∙ ap (λ f. f ∷ []) (one_from_degree P monic d)) I.reduced),
-      λ m.
-          let is : g ∷ [] ≡ term 1 origin ∷ [] = sym e ∙ one_member m in
-          let one : g ≡ term 1 origin = cc in
-          ap degree one ∙ degree-term F 1 (omega arith) (one_below L) IsExponents-origin ∙ ap Some total_origin,
-    )
-
-    pub unit_is_single : Member F J.given (term 1 origin) → length J.members ≡ 1
-    unit_is_single m = ap length (one_member m)
 
     -- The ideal is zero exactly where the basis is empty.
     pub zero_from_members : (J.members ≡ []) ↔ All (λ g. g ≡ empty) J.given

@@ -1,5 +1,5 @@
 -- Causes of stops: of a run, handed on, and among more lists and products.
-use Rattle.std.proofs.Common.{◌≡◌, ℕ, List, [], ◌∷◌, Result, Ok, Err, IfErr, sym, subst, refl}
+use Rattle.std.proofs.Common.{◌≡◌, ℕ, List, Result, Ok, Err, sym, subst, refl}
 use Rattle.std.specs.Result.{IsErrAnd}
 use Rattle.fj_coeff.specs.Field.{Field}
 use Rattle.fj_theory.specs.MonomialOrder.{grevlex_key}
@@ -11,7 +11,7 @@ use Rattle.fj_plain.specs.declared.order_name.OrderName.TheVariants.{Grevlex}
 use Rattle.fj_basis.specs.declared.stop.Stop.{Stop}
 use Rattle.fj_basis.specs.declared.stop.Stop.TheVariants.{Pairs, High, Product, Memory}
 use Rattle.fj_basis.specs.Outcome.{IsKeptOf, IsStopWhere, AreWritten}
-use Rattle.fj_ideal.specs.Stop.{IsAnswered, IsCauseOf, IsProductOf, IsTooHigh, IsUnfinished, IsWritten, NothingStops, StopsExactlyWith, StopsOnlyWith, kept_list, key_of}
+use Rattle.fj_ideal.specs.Stop.{IsAnswered, IsCauseOf, IsProductOf, IsWritten, NothingStops, StopsExactlyWith, StopsOnlyWith, kept_list, key_of}
 use Rattle.fj_ideal.specs.Lists.{NoList, NoProduct, RunFor}
 
 -- What holds of the list and the order of a run holds of what is kept.

@@ -1,3 +1,4 @@
 pub mod Ideal
+pub mod Reduced
 pub mod Stop
 pub mod Lists

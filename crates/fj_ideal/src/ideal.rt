@@ -194,8 +194,8 @@ impl<K: Coeff> Ideal<K> {
     }
 }
 
-// Whether the two lists have the same polynomials, in order.
-fn are_same<K: Coeff>(list: &[GPoly<K>], others: &[GPoly<K>]) -> bool
+/// Whether the two lists have the same polynomials, in order.
+pub(crate) fn are_same<K: Coeff>(list: &[GPoly<K>], others: &[GPoly<K>]) -> bool
     ensures { IsTrue result ↔ (list.now ≡ others.now) }
 {
     list.len() == others.len() && list.iter().zip(others).all(|(g, h)| g.same(h))

@@ -4,6 +4,8 @@
 mod ideal;
 mod membership;
 mod operations;
+mod reduced;
 
 pub use ideal::Ideal;
 pub use operations::kept_pair;
+pub use reduced::Reduced;

@@ -1,21 +1,37 @@
-use Rattle.std.proofs.Common.{subst}
+use Rattle.std.proofs.Common.{sym, subst}
 use Rattle.std.proofs.lemmas.Result.{IfOk-weaker}
+use Rattle.fj_theory.specs.Exponents.{origin}
+use Rattle.fj_theory.specs.Polynomial.{term}
 use Rattle.fj_plain.specs.declared.order_name.OrderName.TheVariants.{Grevlex}
 use Rattle.fj_ideal.specs.Lists.{RunFor}
-use Rattle.fj_ideal.specs.Stop.{StopsOnlyWith}
-use Rattle.fj_chain.specs.Lists.{IsHighInLimit, IsLastLimitList, IsLimitList}
-use Rattle.fj_chain.proofs.TestIdeals.{left_from_last}
+use Rattle.fj_ideal.proofs.Stops.{only_handed_on, run_only_as}
+use Rattle.fj_testideal.specs.TestIdeal.{IsLeftLimit}
+use Rattle.fj_chain.specs.Lists.{IsHighInLeft, IsLastLeftList, IsLeftList}
+use Rattle.fj_chain.proofs.LastLists.{last_limit_is_list}
 use Rattle.fj_chain.proofs.limits.left_limit.Goals as goal
+
+pub returns-in_err-reduced-clause-stop : goal.returns-in_err-reduced-clause-stop
+returns-in_err-reduced-clause-stop g c =
+    let F = g.K.Coeff.field in
+    let f = c.args.f.now in
+    let t = c.args.t.now in
+    only_handed_on F c.args.pairs (RunFor Grevlex (IsLeftList F f t)) (RunFor Grevlex (IsLeftList F f t)) (IsHighInLeft F f t) (IsHighInLeft F f t) (λ o N e. e) (λ N e. e)
+    c.in_err-reduced.field-0.0 c.from_residual.result c.from_residual.ensures.1 c.in_err-reduced.ensures.stop
 
 pub returns-clause-value : goal.returns-clause-value
 returns-clause-value g c =
-    let F = g.K.Coeff.field in
-    IfOk-weaker c.limit_from.result _ _
-    (λ J last. left_from_last g.met.K.Coeff.lawful c.is_zero.ensures.polynomial c.args.t.now J.given (subst (λ h. IsLastLimitList F c.args.f.now c.args.t.now h J.given) c.in_ok-unit.ensures last)) c.limit_from.ensures.list
+    IfOk-weaker c.with_cofactors.result _ _ (λ J S. subst (IsLeftLimit g.K.Coeff.field c.args.f.now c.args.t.now) (sym S.given) c.in_ok-reduced.ensures.value) c.with_cofactors.ensures.value
+
+pub returns-clause-list : goal.returns-clause-list
+returns-clause-list g c =
+    IfOk-weaker c.with_cofactors.result _ _ (λ J S. subst (IsLastLeftList g.K.Coeff.field c.args.f.now c.args.t.now) (sym S.given) c.in_ok-reduced.ensures.list) c.with_cofactors.ensures.value
+
+pub returns-clause-ideal : goal.returns-clause-ideal
+returns-clause-ideal g c = IfOk-weaker c.with_cofactors.result _ _ (λ J S. S.ideal) c.with_cofactors.ensures.value
 
 pub returns-clause-stop : goal.returns-clause-stop
 returns-clause-stop g c =
     let F = g.K.Coeff.field in
     let f = c.args.f.now in
     let t = c.args.t.now in
-    subst (λ h. StopsOnlyWith F (RunFor Grevlex (IsLimitList F f t h)) (IsHighInLimit F f t h) c.args.pairs c.limit_from.result) c.in_ok-unit.ensures c.limit_from.ensures.stop
+    run_only_as F c.args.pairs Grevlex c.in_ok-reduced.reduced.given (IsLeftList F f t) (IsHighInLeft F f t) (last_limit_is_list F f t (term 1 origin) c.in_ok-reduced.reduced.given c.in_ok-reduced.ensures.list) c.with_cofactors.result c.with_cofactors.ensures.stop

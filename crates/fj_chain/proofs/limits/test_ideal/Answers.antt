@@ -1,49 +1,35 @@
-use Rattle.std.proofs.Common.{◌≡◌, ◌<◌, ◌∷◌, [], ◌∙◌, sym, ap, subst, arith}
+use Rattle.std.proofs.Common.{sym, subst}
 use Rattle.std.proofs.lemmas.Result.{IfOk-weaker}
-use Rattle.fj_theory.specs.Exponents.{origin}
-use Rattle.fj_theory.specs.Polynomial.{term}
 use Rattle.fj_plain.specs.declared.order_name.OrderName.TheVariants.{Grevlex}
-use Rattle.fj_ideal.specs.Lists.{NoProduct, RunFor}
-use Rattle.fj_ideal.proofs.Stops.{only_from_exactly, only_of_more}
+use Rattle.fj_ideal.specs.Lists.{RunFor}
+use Rattle.fj_ideal.proofs.Stops.{only_handed_on, run_only_as}
 use Rattle.fj_testideal.specs.TestIdeal.{IsTestIdeal}
-use Rattle.fj_testideal.proofs.TestIdeal.{test_ideal-zero}
-use Rattle.fj_chain.specs.Lists.{IsHighInLimit, IsHighInTest, IsLimitList, IsTestList, at_zero, above_zero}
-use Rattle.fj_chain.proofs.TestIdeals.{test_from_last}
+use Rattle.fj_chain.specs.Lists.{IsHighInTest, IsLastTestList, IsTestList}
+use Rattle.fj_chain.proofs.LastLists.{last_test_is_list}
 use Rattle.fj_chain.proofs.limits.test_ideal.Goals as goal
 
-pub returns-then-num-eq0-clause-value : goal.returns-then-num-eq0-clause-value
-returns-then-num-eq0-clause-value g c =
-    let F = g.K.Coeff.field in
-    let number = c.num.ensures.value in
-    let zero_is = c.if-num-eq0.true in
-    let single : c.from_ref.result.now ≡ term 1 origin ∷ [] = c.from_ref.ensures.value ∙ ap (λ h. h ∷ []) c.in_ok-unit.ensures in
-    IfOk-weaker c.of.result _ _
-    (λ J S. subst (IsTestIdeal F c.args.f.now c.args.t.now) (sym (S.given ∙ single)) (test_ideal-zero g.met.K.Coeff.lawful c.is_zero.ensures.polynomial c.args.t.now (omega (arith, number, zero_is)))) c.of.ensures.value
-
-pub returns-then-num-eq0-clause-stop : goal.returns-then-num-eq0-clause-stop
-returns-then-num-eq0-clause-stop g c =
+pub returns-in_err-reduced-clause-stop : goal.returns-in_err-reduced-clause-stop
+returns-in_err-reduced-clause-stop g c =
     let F = g.K.Coeff.field in
     let f = c.args.f.now in
     let t = c.args.t.now in
-    let L = c.from_ref.result.now in
-    let number = c.num.ensures.value in
-    let zero_is = c.if-num-eq0.true in
-    let none : t.numerator ≡ 0 = omega (arith, number, zero_is) in
-    let single : L ≡ term 1 origin ∷ [] = c.from_ref.ensures.value ∙ ap (λ h. h ∷ []) c.in_ok-unit.ensures in
-    only_of_more F c.args.pairs (RunFor Grevlex (λ M. M ≡ L)) (RunFor Grevlex (IsTestList F f t)) NoProduct (IsHighInTest F f t)
-    (λ o N e. (e.0, at_zero none (e.1 ∙ single))) (λ N no. absurd no) c.of.result (only_from_exactly F c.args.pairs (RunFor Grevlex (λ M. M ≡ L)) NoProduct c.of.result c.of.ensures.stop)
+    only_handed_on F c.args.pairs (RunFor Grevlex (IsTestList F f t)) (RunFor Grevlex (IsTestList F f t)) (IsHighInTest F f t) (IsHighInTest F f t) (λ o N e. e) (λ N e. e)
+    c.in_err-reduced.field-0.0 c.from_residual.result c.from_residual.ensures.1 c.in_err-reduced.ensures.stop
 
 pub returns-clause-value : goal.returns-clause-value
 returns-clause-value g c =
-    IfOk-weaker c.limit_from.result _ _ (λ J last. test_from_last g.met.K.Coeff.lawful c.is_zero.ensures.polynomial c.args.t.now J.given last) c.limit_from.ensures.list
+    IfOk-weaker c.with_cofactors.result _ _ (λ J S. subst (IsTestIdeal g.K.Coeff.field c.args.f.now c.args.t.now) (sym S.given) c.in_ok-reduced.ensures.value) c.with_cofactors.ensures.value
+
+pub returns-clause-list : goal.returns-clause-list
+returns-clause-list g c =
+    IfOk-weaker c.with_cofactors.result _ _ (λ J S. subst (IsLastTestList g.K.Coeff.field c.args.f.now c.args.t.now) (sym S.given) c.in_ok-reduced.ensures.list) c.with_cofactors.ensures.value
+
+pub returns-clause-ideal : goal.returns-clause-ideal
+returns-clause-ideal g c = IfOk-weaker c.with_cofactors.result _ _ (λ J S. S.ideal) c.with_cofactors.ensures.value
 
 pub returns-clause-stop : goal.returns-clause-stop
 returns-clause-stop g c =
     let F = g.K.Coeff.field in
     let f = c.args.f.now in
     let t = c.args.t.now in
-    let number = c.num.ensures.value in
-    let apart = c.if-num-eq0.false in
-    let some : 0 < t.numerator = omega (arith, number, apart) in
-    only_of_more F c.args.pairs (RunFor Grevlex (IsLimitList F f t f)) (RunFor Grevlex (IsTestList F f t)) (IsHighInLimit F f t f) (IsHighInTest F f t)
-    (λ o N e. (e.0, above_zero some e.1)) (λ N e. record { above_zero = some; high = e }) c.limit_from.result c.limit_from.ensures.stop
+    run_only_as F c.args.pairs Grevlex c.in_ok-reduced.reduced.given (IsTestList F f t) (IsHighInTest F f t) (last_test_is_list F f t c.in_ok-reduced.reduced.given c.in_ok-reduced.ensures.list) c.with_cofactors.result c.with_cofactors.ensures.stop

@@ -1,4 +1,4 @@
-use Rattle.std.proofs.Common.{ℕ, ◌∷◌, [], Err, sym, subst, refl}
+use Rattle.std.proofs.Common.{ℕ, ◌∷◌, [], Err, subst, refl}
 use Rattle.fj_theory.specs.Polynomial.{product}
 use Rattle.fj_poly.specs.Limit.{IsHigh, IsHighWhere}
 use Rattle.fj_ideal.specs.Lists.{IsHighPair}

@@ -6,7 +6,7 @@ use Rattle.fj_ideal.proofs.ideal.Ideal.is_unit.Goals as goal
 pub returns-in-len1 : goal.returns-in-len1
 returns-in-len1 g c =
     let single : c.args.self.now.members ≡ c.member-item.result ∷ [] = sym c.members.ensures.value ∙ one_element c.members.result.now c.member-item.result (omega arith) c.member-item.is in
-    let law = unit_from_member g.met.K.Coeff.lawful c.members.ensures.ideal c.member-item.result single in
+    let law = unit_from_member g.met.K.Coeff.lawful c.members.ensures.ideal.polynomials c.members.ensures.ideal.reduced c.member-item.result single in
     let constant : IsTrue c.eq.result ↔ (degree c.member-item.result ≡ Some 0) = search rules in
     (λ t. law.0 (constant.0 t), λ m. constant.1 (law.1 m))
 
@@ -14,7 +14,7 @@ pub returns-in_default : goal.returns-in_default
 returns-in_default g c = (
   λ t. cc,
   λ m.
-      let long = unit_is_single g.met.K.Coeff.lawful c.members.ensures.ideal m in
+      let long = unit_is_single g.met.K.Coeff.lawful c.members.ensures.ideal.polynomials c.members.ensures.ideal.reduced m in
       let same = ap length c.members.ensures.value in
       absurd (omega (arith, long, same)),
 )
@@ -23,7 +23,7 @@ pub returns-in_default-2 : goal.returns-in_default-2
 returns-in_default-2 g c = (
   λ t. cc,
   λ m.
-      let long = unit_is_single g.met.K.Coeff.lawful c.members.ensures.ideal m in
+      let long = unit_is_single g.met.K.Coeff.lawful c.members.ensures.ideal.polynomials c.members.ensures.ideal.reduced m in
       let same = ap length c.members.ensures.value in
       absurd (omega (arith, long, same)),
 )
