@@ -8,9 +8,8 @@ below five. Macaulay2 starts in a second and answers in thousandths, so its scri
 on. A ratio is the program's time over the peer's; for `basis` Singular is asked for `liftstd`, which returns
 cofactors too, and in a column of its own for `std`, which doesn't. Where a peer has no call for a question (Singular
 for Frobenius roots) the ratio is left out, where its answers differ from the program's the row says so, and where it
-takes over a minute of a processor it is cut: the ratio is then below what is printed. A session with a question that the program
-leaves for later is left out. With `--turns` the least budget with which no question is stopped is looked for, by
-bisection: the number of turns that the run takes.
+takes over a minute of a processor it is cut: the ratio is then below what is printed. With `--turns` the
+least budget with which no question is stopped is looked for, by bisection: the number of turns that the run takes.
 """
 
 import dataclasses
@@ -112,13 +111,10 @@ def ratio(peer: Peer, text: str, own: Timed, start: float) -> str:
     return figure + ("" if there.lines == own.lines else " differs")
 
 
-def row(name: str, size: int, text: str, before: float | None, starts: dict[str, float], with_turns: bool) -> float | None:
+def row(name: str, size: int, text: str, before: float | None, starts: dict[str, float], with_turns: bool) -> float:
     """Prints the row of a session, and hands on the program's seconds."""
     own = answered(text).less(starts[""])
     label = f"{name:<12}{size:>6}"
-    if any(line.endswith(": later") for line in own.lines):
-        print(f"{label}  left out: a question of it isn't answered yet", flush=True)
-        return None
     growth = f"{own.seconds / before:.1f}" if before else ""
     counts = with_turns and name in COUNTED and not own.was_cut
     count = f"{turns(text):>8}" if counts else (" " * 8 if with_turns else "")

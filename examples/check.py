@@ -9,7 +9,7 @@
 - in docs/MANUAL.md each row of a table with a session in one cell, its lines parted by a return sign, and what the
   program writes in the next.
 
-The status has to be the one that the manual tells: 2 after a fault, 3 where an answer is stopped or left for later.
+The status has to be the one that the manual tells: 2 after a fault, 3 where an answer is a stop.
 """
 
 import pathlib
@@ -29,7 +29,7 @@ ROWS = re.compile(r"^\|.*\| `([^`|]*⏎[^`|]*)` \| `([^`|]*)` \|$", re.MULTILINE
 def status_of(answers: str) -> int:
     if answers.startswith("fault "):
         return 2
-    return 3 if re.search(r"^\d+: (later|stopped \w+)$", answers, re.MULTILINE) else 0
+    return 3 if re.search(r"^\d+: stopped \w+$", answers, re.MULTILINE) else 0
 
 
 def examples(program: str):
