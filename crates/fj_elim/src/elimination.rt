@@ -12,7 +12,7 @@ ghost use Rattle.fj_ideal.specs.Stop.{StopsExactlyWith};
 ghost use Rattle.fj_elim.specs.Lists.{IsEliminated, IsHighInMeet, IsMeetList};
 
 use crate::list::meet_list;
-use fj_basis::{Stop, basis};
+use fj_basis::{Stop, reduced_basis};
 use fj_coeff::Coeff;
 use fj_ideal::Ideal;
 use fj_mono::{Elim, Order};
@@ -60,8 +60,8 @@ pub(crate) fn eliminated<K: Coeff>(
     ensures stop { StopsExactlyWith K.field (RunFor orders.Elim (IsMeetList K.field list.now others.now)) (IsHighInMeet K.field list.now others.now) pairs result }
 {
     let list = meet_list(alloc, list, others)?;
-    let basis = basis(alloc, &list, pairs)?;
-    Ok(drop_t(alloc, basis.members())?)
+    let members = reduced_basis(alloc, &list, pairs)?;
+    Ok(drop_t(alloc, &members)?)
 }
 
 /// The meet of two ideals in the first seven variables, by elimination of the eighth, t, with at most `pairs` turns (Cox,
