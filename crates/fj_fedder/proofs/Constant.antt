@@ -1,5 +1,5 @@
 -- A constant among the polynomials of a list, not zero: its ideal is the whole ring.
-use Rattle.std.proofs.Common.{◌≡◌, ◌≢◌, ◌<◌, ◌+◌, List, Any, Some, sym, ap, ◌∙◌, subst, arith}
+use Rattle.std.proofs.Common.{◌≡◌, ◌≢◌, List, Any, Some, sym, ap, ◌∙◌, subst}
 use Rattle.std.specs.FinMap.{empty}
 use Rattle.std.proofs.lemmas.Option.{none-some}
 use Rattle.fj_coeff.specs.Field.{Field, IsField}

@@ -1,5 +1,5 @@
 -- One polynomial: it cancels in a quotient of its multiples, and where it is monic it is the reduced basis of its ideal.
-use Rattle.std.proofs.Common.{◌≡◌, ◌≢◌, ℕ, zero, suc, ◌^◌, ◌-◌, List, [], ◌∷◌, All, Contains, refl, sym, ap, ap₂, ◌∙◌, subst, arith}
+use Rattle.std.proofs.Common.{◌≡◌, ◌≢◌, ℕ, zero, suc, ◌^◌, ◌-◌, List, [], ◌∷◌, Contains, sym, ap, ap₂, ◌∙◌, subst, arith}
 use Rattle.std.specs.FinMap.{empty}
 use Rattle.std.proofs.lemmas.List.Elements.{All-cons, All-head, All-nil}
 use Rattle.fj_coeff.specs.Field.{Field, IsField}
@@ -21,7 +21,7 @@ use Rattle.fj_theory.proofs.IdealBridge.{ArePolynomials-single, InRing-cons, InR
 use Rattle.fj_theory.proofs.Keys.{grevlex_key-IsMonomialOrder}
 use Rattle.fj_theory.proofs.Lead.{lead_at}
 use Rattle.fj_theory.proofs.OrderedPolynomials.{Exponents, ordered_polynomials, polynomials}
-use Rattle.fj_theory.proofs.PolynomialRing.{PolynomialOver, IsPolynomial-power, map_mul, map_one, map_zero, over_equal, polynomial_ring, power_suc, power_zero, product_comm}
+use Rattle.fj_theory.proofs.PolynomialRing.{PolynomialOver, IsPolynomial-power, map_mul, map_zero, over_equal, power_suc, power_zero, product_comm}
 use Rattle.fj_groebner.specs.ReducedBasis.{IsReducedBasis}
 use Rattle.fj_groebner.proofs.ReducedBasis.{IsMonic-from_lead, IsReducedBasis_map, IsReducedBasis-one, lead-from_IsMonic}
 

@@ -95,13 +95,29 @@ fn fermat_cubics(rt: HostRuntime) -> Result<(), Fail> {
     pure::<Fp<7>>(&rt, alloc, &[CUBIC], true)
 }
 
-// The cone over a Fermat quintic in five variables: its (p - 1)-th power has the term of (x1*x2*x3*x4*x5)^(p-1) where 5
-// divides p - 1, and else each term has a p-th power.
+// Both verdicts on the cone over a Fermat quintic in five variables, that at the vertex without a turn.
+fn fermat_quintic<K: Coeff>(
+    rt: &impl Abort,
+    alloc: Global,
+    expected: bool,
+    at_vertex: PureAt,
+) -> Result<(), Fail> {
+    let j = fermat::<K>(rt, alloc, 5)?;
+    pure_modulo(rt, alloc, &j, expected)?;
+    assert!(rt; lack_eighth(j.members()));
+    assert_eq!(rt;
+        is_pure_at(alloc, &j, &Point::of(alloc, &[])?, 0)?,
+        at_vertex
+    );
+    Ok(())
+}
+
+// The (p - 1)-th power has the term of (x1*x2*x3*x4*x5)^(p-1) where 5 divides p - 1, and else each term has a p-th power.
 #[test]
 fn fermat_quintics(rt: HostRuntime) -> Result<(), Fail> {
     let alloc = rt.alloc();
-    pure_modulo(&rt, alloc, &fermat::<Fp<7>>(&rt, alloc, 5)?, false)?;
-    pure_modulo(&rt, alloc, &fermat::<Fp<11>>(&rt, alloc, 5)?, true)
+    fermat_quintic::<Fp<7>>(&rt, alloc, false, PureAt::No)?;
+    fermat_quintic::<Fp<11>>(&rt, alloc, true, PureAt::Yes)
 }
 
 // The coordinate axes, a double plane, all of space, and nothing.

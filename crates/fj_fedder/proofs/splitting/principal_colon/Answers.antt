@@ -1,4 +1,4 @@
-use Rattle.std.proofs.Common.{◌≡◌, ◌-◌, ◌^◌, ◌∷◌, [], ◌∙◌, ℕ, suc, All, Err, sym, ap, subst, arith}
+use Rattle.std.proofs.Common.{◌-◌, ◌^◌, ◌∷◌, [], ◌∙◌, ℕ, All, Err, sym, ap, subst, arith}
 use Rattle.std.proofs.lemmas.List.Elements.{All-cons, All-nil}
 use Rattle.std.proofs.lemmas.Result.{IfOk-weaker}
 use Rattle.fj_theory.specs.Colon.{IsColon}
