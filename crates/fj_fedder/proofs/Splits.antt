@@ -1,5 +1,5 @@
 -- The quotient I^[p] : I of an ideal and its root, by the members of the ideals.
-use Rattle.std.proofs.Common.{ℕ, ◌^◌, List, [], ◌∷◌, All, Result, Ok, Err, IfOk, get_or, refl, sym, subst}
+use Rattle.std.proofs.Common.{◌≡◌, ℕ, ◌^◌, List, [], ◌∷◌, All, Result, Ok, Err, IfOk, get_or, refl, sym, subst}
 use Rattle.std.proofs.lemmas.List.Elements.{All-map, Contains-get_or}
 use Rattle.fj_algebra.proofs.Lists.{All-map_back}
 use Rattle.fj_coeff.specs.Field.{Field, IsField}
@@ -17,7 +17,7 @@ use Rattle.fj_theory.proofs.UsesFirst.{UsesFirst-all_parts, UsesFirst-frobenius_
 use Rattle.fj_poly.specs.Limit.{IsHigh}
 use Rattle.fj_ideal.specs.Ideal.{IsIdeal, IsIdealOf, WithBasis}
 use Rattle.fj_ideal.specs.Lists.{AreLow}
-use Rattle.fj_ideal.proofs.Lists.{basis_of_list}
+use Rattle.fj_ideal.proofs.Lists.{basis_of_list, polynomials_of_list}
 use Rattle.fj_ideal.proofs.ReducedBasis.{ArePolynomials-members, SameIdeal-members}
 use Rattle.fj_frobenius.specs.Lists.{IsHighMember, IsRootList}
 use Rattle.fj_elim.specs.Lists.{IsColonBasis}
@@ -54,6 +54,15 @@ module _ {F : Field} (L : IsField F) where
         formed = record { is = refl; low = low_powers F (F.characteristic ^ 1) I.members none };
         reduced = basis_of_list B;
       }
+
+      -- A quotient that is told of the members of I.
+      pub power-colon : {C : WithBasis} → IsIdeal F C → {M : List Polynomial} → I.members ≡ M → IsColon F (frobenius_power F (F.characteristic ^ 1) M) M C.given
+          → IsColon F P.given I.given C.given
+      power-colon {C} Q {M} e c =
+          IsColon-SameIdeal L (polynomials_of_list B) B.ideal.polynomials (ArePolynomials-members L A) A.polynomials Q.polynomials Q.polynomials
+          (subst (SameIdeal F (frobenius_power F (F.characteristic ^ 1) I.members)) (sym B.given) (SameIdeal-refl L (polynomials_of_list B)))
+          (SameIdeal-sym (SameIdeal-members L A)) (SameIdeal-refl L Q.polynomials)
+          (subst (λ N. IsColon F (frobenius_power F (F.characteristic ^ 1) N) N C.given) (sym e) c)
 
     -- Its quotient by I is that of I^[p].
     module _ {P C : WithBasis} (B : IsIdeal F P) (Q : IsIdeal F C) (c : IsColon F P.given I.given C.given) where

@@ -1,16 +1,17 @@
 //! F-purity, over the whole quotient and at a point.
-ghost use Rattle.std.specs.Prelude.{◌≡◌, ◌≢◌, ◌↔◌, IfOk, IsTrue, All, Any};
+ghost use Rattle.std.specs.Prelude.{◌≡◌, ◌≢◌, ◌↔◌, IfOk, IsTrue, All, Any, Some};
 ghost use Rattle.fj_theory.specs.Evaluation.{value};
 ghost use Rattle.fj_theory.specs.PointIdeal.{UsesFirst};
+ghost use Rattle.fj_theory.specs.Polynomial.{degree};
 ghost use Rattle.fj_theory.specs.Splitting.{IsFPure};
 ghost use Rattle.fj_ideal.specs.Stop.{StopsOnlyWith};
 ghost use Rattle.fj_fedder.specs.Fedder.{IsVerdictAt};
 ghost use Rattle.fj_fedder.specs.Lists.{IsHighInSplit, IsListForColon, IsSplitList};
 
-use crate::splitting::{fedder_colon, split_ideal};
+use crate::splitting::fedder_colon;
 use fj_basis::Stop;
 use fj_coeff::Coeff;
-use fj_ideal::Ideal;
+use fj_ideal::{Ideal, Reduced};
 use fj_poly::{GPoly, Point};
 use fj_root::root_list;
 use std::alloc::Global;
@@ -27,7 +28,8 @@ pub enum PureAt {
 /// Whether the ring of polynomials modulo an ideal I in the first seven variables is F-pure: whether some p^-1-linear map
 /// keeps I and sends 1 to 1 modulo I (Hochster and Roberts 1976, Fedder 1983). Each list is run with at most `pairs` turns.
 ///
-/// By Fedder's criterion it is so exactly where `split_ideal` of I is the whole ring. It stops as `split_ideal` does.
+/// By Fedder's criterion it is so exactly where `split_ideal` of I is the whole ring. It stops only as `split_ideal` does. The
+/// parts are run without cofactors, and not at all where one of them is a constant.
 pub fn is_pure<K: Coeff>(alloc: Global, i: &Ideal<K>, pairs: u64) -> Result<bool, Stop>
     requires { All (UsesFirst 7) i.now.members }
     ensures value { IfOk result (λ b. IsTrue b ↔ IsFPure K.field i.now.given) }
@@ -35,7 +37,12 @@ pub fn is_pure<K: Coeff>(alloc: Global, i: &Ideal<K>, pairs: u64) -> Result<bool
 {
     // What is given of the ideal are polynomials.
     let _ = i.given();
-    let split = split_ideal(alloc, i, pairs)?;
+    let colon = fedder_colon(alloc, i, pairs)?;
+    let parts = root_list(alloc, 1, colon.members())?;
+    if has_constant(&parts) {
+        return Ok(true);
+    }
+    let split = Reduced::of_owned(alloc, parts, pairs)?;
     Ok(split.is_unit())
 }
 
@@ -68,6 +75,13 @@ pub fn is_pure_at<K: Coeff>(
     } else {
         Ok(PureAt::No)
     }
+}
+
+// Whether a polynomial of the list is a constant, which isn't zero.
+fn has_constant<K: Coeff>(list: &[GPoly<K>]) -> bool
+    ensures { IsTrue result → Any (λ g. degree g ≡ Some 0) list.now }
+{
+    list.iter().any(|g| g.degree() == Some(0))
 }
 
 // Whether a polynomial of the list isn't zero at the point.

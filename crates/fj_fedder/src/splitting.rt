@@ -1,6 +1,12 @@
 //! The ideal of the values at 1 of splittings.
-ghost use Rattle.std.specs.Prelude.{IfOk, All};
+ghost use Rattle.std.specs.Prelude.{◌≡◌, ◌^◌, ◌∷◌, [], IfOk, All};
+ghost use Rattle.fj_theory.specs.Colon.{IsColon};
+ghost use Rattle.fj_theory.specs.FrobeniusPower as theory;
+ghost use Rattle.fj_theory.specs.Lead.{lead_coefficient};
+ghost use Rattle.fj_theory.specs.MonomialOrder.{grevlex_key};
 ghost use Rattle.fj_theory.specs.PointIdeal.{UsesFirst};
+ghost use Rattle.fj_theory.specs.Polynomial.{power};
+ghost use Rattle.fj_poly.specs.Limit.{IsHigh};
 ghost use Rattle.fj_ideal.specs.Ideal.{IsIdeal};
 ghost use Rattle.fj_ideal.specs.Stop.{StopsOnlyWith};
 ghost use Rattle.fj_fedder.specs.Fedder.{IsFedderColon, IsSplitIdeal};
@@ -11,9 +17,29 @@ use fj_coeff::Coeff;
 use fj_elim::colon;
 use fj_frobenius::{frobenius_power, frobenius_root};
 use fj_ideal::Ideal;
-use std::alloc::Global;
+use fj_poly::{GPoly, PolyFault};
+use std::alloc::{AllocError, Global};
 
-/// The quotient I^[p] : I of an ideal I, p the characteristic, with at most `pairs` turns in each run.
+// The quotient of (f^p) by (f) for a monic f, p the characteristic: f cancels, and so it is (f^(p-1)). Nothing is run.
+fn principal_colon<K: Coeff>(alloc: Global, f: &GPoly<K>) -> Result<Ideal<K>, AllocError>
+    requires monic { lead_coefficient grevlex_key f.now ≡ 1 }
+    requires low { IsHigh (power K.field f.now (K.field.characteristic ^ 1)) → ⊥ }
+    requires variables { UsesFirst 7 f.now }
+    ensures colon { IfOk result (λ J. IsColon K.field (theory.frobenius_power K.field (K.field.characteristic ^ 1) (f.now ∷ [])) (f.now ∷ []) J.given) }
+    ensures ideal { IfOk result (IsIdeal K.field) }
+    ensures variables { IfOk result (λ J. All (UsesFirst 7) J.members) }
+{
+    // f is a polynomial over K.
+    let _ = f.is_zero();
+    match f.pow(alloc, K::P - 1) {
+        Ok(power) => Ideal::of_reduced(alloc, vec![in alloc; power]?),
+        Err(PolyFault::High) => unreachable!(),
+        Err(PolyFault::Memory) => Err(AllocError),
+    }
+}
+
+/// The quotient I^[p] : I of an ideal I, p the characteristic, with at most `pairs` turns in each run. For an ideal of one
+/// polynomial no pair is run.
 pub(crate) fn fedder_colon<K: Coeff>(
     alloc: Global,
     i: &Ideal<K>,
@@ -29,7 +55,10 @@ pub(crate) fn fedder_colon<K: Coeff>(
     // What is given of the ideal are polynomials.
     let _ = i.given();
     let power = frobenius_power(alloc, 1, i, pairs)?;
-    colon(alloc, &power, i, pairs)
+    match i.members() {
+        [f] => Ok(principal_colon(alloc, f)?),
+        _ => colon(alloc, &power, i, pairs),
+    }
 }
 
 /// The Frobenius root at 1 of the quotient I^[p] : I, p the characteristic, of an ideal I in the first seven variables, with

@@ -51,6 +51,18 @@ pub(crate) fn ideal<K: Coeff>(
     Ok(Ideal::of_owned(alloc, list, 100)?)
 }
 
+/// The ideal of the sum of the n-th powers of the first five variables.
+pub(crate) fn fermat<K: Coeff>(rt: &impl Abort, alloc: Global, n: u64) -> Result<Ideal<K>, Fail> {
+    let mut sum = Poly::zero(alloc);
+    for i in 0..5 {
+        let mut exponents = [0; 8];
+        exponents[i] = n;
+        let m = Mono::new(exponents).expect(rt, "a degree within the limit");
+        sum = sum.add(alloc, &Poly::term(alloc, K::one(), &m)?)?;
+    }
+    Ok(Ideal::of_owned(alloc, vec![in alloc; sum]?, 100)?)
+}
+
 /// Whether no polynomial of the list has the eighth variable.
 pub(crate) fn lack_eighth<K: Coeff>(list: &[GPoly<K>]) -> bool
     ensures { IsTrue result → All (UsesFirst 7) list.now }

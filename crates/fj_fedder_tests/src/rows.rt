@@ -2,11 +2,12 @@
 
 ghost use Rattle.std.specs.Prelude.{◌≤◌};
 
-use crate::given::{ONE, SQUARE, Terms, X, XY, XZ, YZ, ideal, lack_eighth, poly};
+use crate::given::{ONE, SQUARE, Terms, X, XY, XZ, YZ, fermat, ideal, lack_eighth, poly};
 use fj_basis::Stop;
 use fj_coeff::{Coeff, Fp};
 use fj_compat::compatible;
 use fj_fedder::{PureAt, is_pure, is_pure_at, split_ideal};
+use fj_ideal::Ideal;
 use fj_poly::Point;
 use std::alloc::Global;
 use std::process::Abort;
@@ -24,16 +25,25 @@ const FOLD: Terms<'static> = &[[2, 1, 0], [2, 0, 0]];
 const CROSSED: Terms<'static> = &[[1, 2, 0], [1, 0, 0]];
 
 // The polynomials modulo the ideal are F-pure, or aren't.
+fn pure_modulo<K: Coeff>(
+    rt: &impl Abort,
+    alloc: Global,
+    j: &Ideal<K>,
+    expected: bool,
+) -> Result<(), Fail> {
+    assert!(rt; lack_eighth(j.members()));
+    assert_eq!(rt; is_pure(alloc, j, TURNS)?, expected);
+    Ok(())
+}
+
+// The polynomials modulo the ideal of these are F-pure, or aren't.
 fn pure<K: Coeff>(
     rt: &impl Abort,
     alloc: Global,
     rows: &[Terms],
     expected: bool,
 ) -> Result<(), Fail> {
-    let j = ideal::<K>(rt, alloc, rows)?;
-    assert!(rt; lack_eighth(j.members()));
-    assert_eq!(rt; is_pure(alloc, &j, TURNS)?, expected);
-    Ok(())
+    pure_modulo(rt, alloc, &ideal::<K>(rt, alloc, rows)?, expected)
 }
 
 // The verdict at a point in x and y.
@@ -83,6 +93,31 @@ fn fermat_cubics(rt: HostRuntime) -> Result<(), Fail> {
     let alloc = rt.alloc();
     pure::<Fp<5>>(&rt, alloc, &[CUBIC], false)?;
     pure::<Fp<7>>(&rt, alloc, &[CUBIC], true)
+}
+
+// Both verdicts on the cone over a Fermat quintic in five variables, that at the vertex without a turn.
+fn fermat_quintic<K: Coeff>(
+    rt: &impl Abort,
+    alloc: Global,
+    expected: bool,
+    at_vertex: PureAt,
+) -> Result<(), Fail> {
+    let j = fermat::<K>(rt, alloc, 5)?;
+    pure_modulo(rt, alloc, &j, expected)?;
+    assert!(rt; lack_eighth(j.members()));
+    assert_eq!(rt;
+        is_pure_at(alloc, &j, &Point::of(alloc, &[])?, 0)?,
+        at_vertex
+    );
+    Ok(())
+}
+
+// The (p - 1)-th power has the term of (x1*x2*x3*x4*x5)^(p-1) where 5 divides p - 1, and else each term has a p-th power.
+#[test]
+fn fermat_quintics(rt: HostRuntime) -> Result<(), Fail> {
+    let alloc = rt.alloc();
+    fermat_quintic::<Fp<7>>(&rt, alloc, false, PureAt::No)?;
+    fermat_quintic::<Fp<11>>(&rt, alloc, true, PureAt::Yes)
 }
 
 // The coordinate axes, a double plane, all of space, and nothing.
