@@ -80,8 +80,12 @@ pub(crate) fn one<K: Coeff>(alloc: Global) -> Result<GPoly<K>, AllocError>
 }
 
 /// The chain of the period from (first), which is (f) or (1), up to its first repeat: its last ideal, and the number of
-/// periods applied. No cofactor is formed.
-pub(crate) fn chain_from<K: Coeff>(
+/// periods applied, as `rising` and `falling` tell them. No cofactor is formed. f isn't constant, has a degree of at most
+/// 1,000, and doesn't use the eighth variable.
+///
+/// `Pairs` and `High` only where a run is unfinished or too high on [first] or on the list of a step, which they keep, and
+/// `Product` only where a product of a step has a term of total degree above 2^40. It keeps f and the other polynomial.
+pub fn chain_from<K: Coeff>(
     alloc: Global,
     first: &GPoly<K>,
     f: &GPoly<K>,

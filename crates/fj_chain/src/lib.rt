@@ -7,6 +7,6 @@ mod limits;
 mod multiples;
 mod steps;
 
-pub use chain::{falling, rising};
+pub use chain::{chain_from, falling, rising};
 pub use limits::{is_jump, left_limit, test_ideal};
-pub use steps::step;
+pub use steps::{follow, step};

@@ -39,9 +39,13 @@ pub fn step<K: Coeff>(
     root_of_multiples(alloc, d, f, ideal, pairs)
 }
 
-/// The steps of an ideal for the digits of a number, which come the highest first: the last one is used first. No cofactor is
-/// formed.
-pub(crate) fn follow<K: Coeff>(
+/// The steps of an ideal for the digits of a number, which come the highest first: the last one is used first. So it goes on
+/// from the limit of a chain over the digits before the period. Each list is run with at most `pairs` turns, and no cofactor
+/// is formed.
+///
+/// `Pairs` and `High` only where a run is unfinished or too high on the list of a step, which they keep, and `Product` only
+/// where a product of a step has a term of total degree above 2^40. It keeps f and the other polynomial.
+pub fn follow<K: Coeff>(
     alloc: Global,
     f: &GPoly<K>,
     digits: &[u8],

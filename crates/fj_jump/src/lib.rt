@@ -4,6 +4,7 @@
 
 mod bisecting;
 mod limits;
+mod period_limits;
 mod rows;
 
 pub use bisecting::search;

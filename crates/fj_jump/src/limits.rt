@@ -1,4 +1,5 @@
-//! The limits of a polynomial at exponents, with a count of the exponents that were asked for.
+//! The limits of a polynomial at exponents, with a count of the exponents that were asked for. Exponents whose digits end in
+//! one period share the limits of its chains, which are kept.
 ghost use Rattle.std.specs.Prelude.{◌≡◌, ◌≤◌, IfOk};
 ghost use Rattle.fj_theory.specs.Fraction.{IsInUnitInterval};
 ghost use Rattle.fj_theory.specs.Polynomial.{IsPolynomial};
@@ -11,28 +12,32 @@ ghost use Rattle.fj_chain.specs.Admissible.{IsAdmissible};
 ghost use Rattle.fj_chain.specs.Lists.{IsHighInJump, IsJumpList, IsLastLeftList, IsLastTestList};
 ghost use Rattle.fj_jump.specs.Limits.{next_count};
 
+use crate::period_limits::{PeriodLimits, keep, place_of};
 use fj_basis::Stop;
-use fj_chain::{left_limit, test_ideal};
 use fj_coeff::Coeff;
 use fj_ideal::Ideal;
 use fj_poly::GPoly;
-use fj_ratio::Ratio;
+use fj_ratio::{Digits, Ratio};
 use std::alloc::Global;
 use std::marker::Model;
 
 /// A polynomial f, the turn budget of the runs for its limits, and the number of exponents at which both limits were asked
 /// for. f isn't constant, has a degree of at most 1,000, and doesn't use the eighth variable.
+/// Within it are kept the limits of both chains of the first 1,024 periods that came up.
 #[derive(Drop)]
 pub struct Limits<K: Coeff> {
     alloc: Global,
     f: GPoly<K>,
     pairs: u64,
     evaluated: u64,
+    periods: Vec<PeriodLimits<K>>,
 }
 
 impl<K: Coeff> Model for Limits<K> {
+    ghost use Rattle.std.specs.Prelude.{All};
     ghost use Rattle.fj_chain.specs.Admissible.{IsAdmissible};
     ghost use Rattle.fj_jump.specs.Limits.{CountedLimits, limits_code};
+    ghost use Rattle.fj_jump.specs.PeriodLimits.{AreLimitsOfPeriod};
 
     ghost Value = { CountedLimits };
 
@@ -40,7 +45,7 @@ impl<K: Coeff> Model for Limits<K> {
 
     ghost view = { λ l. record { f = l.f; pairs = l.pairs; evaluated = l.evaluated } };
 
-    ghost invariant = { λ l. IsAdmissible l.f };
+    ghost invariant = { λ l. IsAdmissible l.f × All (λ limits. AreLimitsOfPeriod K.field l.f limits.period.items limits.rising.given limits.falling.given) l.periods.items };
 }
 
 impl<K: Coeff> Limits<K> {
@@ -57,6 +62,7 @@ impl<K: Coeff> Limits<K> {
             f,
             pairs,
             evaluated: 0,
+            periods: Vec::new(alloc),
         }
     }
 
@@ -83,9 +89,16 @@ impl<K: Coeff> Limits<K> {
         // f is a polynomial over K.
         let _ = self.f.is_zero();
         self.evaluated = self.evaluated.saturating_add(1);
-        let at = test_ideal(self.alloc, &self.f, t, self.pairs)?;
-        let left = left_limit(self.alloc, &self.f, t, self.pairs)?;
-        Ok((at, left))
+        let digits = Digits::of(self.alloc, K::P, t)?;
+        match place_of(&self.periods, &digits) {
+            Ok(place) => self.periods[place].lead_on(self.alloc, &self.f, &digits, self.pairs),
+            Err(place) => {
+                let limits = PeriodLimits::of(self.alloc, &self.f, &digits, self.pairs)?;
+                let reached = limits.lead_on(self.alloc, &self.f, &digits, self.pairs)?;
+                keep(&mut self.periods, place, limits)?;
+                Ok(reached)
+            }
+        }
     }
 
     /// The number of exponents at which both limits were asked for. It takes no memory.

@@ -4,7 +4,7 @@ use crate::rows::{FIFTH, ONE, Terms, X, exponent, has_members, limits};
 use fj_coeff::Fp;
 use std::test::Fail;
 
-// Of x^5 over GF(2): the exponent, the test ideal and the left limit there, and the count after.
+// Of x^5 over GF(2): the exponent, the test ideal and the left limit there, and the count after. 1/6 has the period of 1/3.
 #[test]
 fn limits_of_a_fifth_power(rt: HostRuntime) -> Result<(), Fail> {
     let alloc = rt.alloc();
