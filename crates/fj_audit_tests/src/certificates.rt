@@ -1,41 +1,44 @@
 //! Certificates that x is a basis of (x) over GF(2).
 use fj_plain::{Cert, OrderName, PlainList, PlainPoly, PlainTable, PlainTerm};
-use std::alloc::{AllocError, Global};
+use std::alloc::AllocError;
 use std::process::Abort;
 
-/// The power x^k.
-fn power(rt: &(impl AllocGlobal + Abort), k: u64) -> Result<PlainPoly, AllocError> {
+/// The polynomial whose terms are these powers of x.
+fn poly(rt: &(impl AllocGlobal + Abort), powers: &[u64]) -> Result<PlainPoly, AllocError> {
     let mut terms = Vec::new(rt.alloc());
-    terms.push(PlainTerm {
-        exps: [k, 0, 0, 0, 0, 0, 0, 0],
-        rank: 1,
-    })?;
-    Ok(PlainPoly::of(terms, 2).expect(rt, "a power"))
+    for power in powers {
+        terms.push(PlainTerm {
+            exps: [*power, 0, 0, 0, 0, 0, 0, 0],
+            rank: 1,
+        })?;
+    }
+    Ok(PlainPoly::of(terms, 2).expect(rt, "a plain polynomial"))
 }
 
-/// The list of one polynomial.
-fn list(alloc: Global, f: PlainPoly) -> Result<PlainList, AllocError> {
-    let mut members = Vec::new(alloc);
-    members.push(f)?;
+fn list(rt: &(impl AllocGlobal + Abort), powers: &[u64]) -> Result<PlainList, AllocError> {
+    let mut members = Vec::new(rt.alloc());
+    members.push(poly(rt, powers)?)?;
     Ok(PlainList::of(members))
 }
 
-/// The table of one polynomial.
-fn table(alloc: Global, f: PlainPoly) -> Result<PlainTable, AllocError> {
-    let mut rows = Vec::new(alloc);
-    rows.push(list(alloc, f)?)?;
+fn table(rt: &(impl AllocGlobal + Abort), powers: &[u64]) -> Result<PlainTable, AllocError> {
+    let mut rows = Vec::new(rt.alloc());
+    rows.push(list(rt, powers)?)?;
     Ok(PlainTable::of(rows))
 }
 
-/// The certificate with the cofactors x^down and 1; it holds where `down` is 0.
-pub fn basis_of_x(rt: &(impl AllocGlobal + Abort), down: u64) -> Result<Cert, AllocError> {
-    let alloc = rt.alloc();
+/// The certificate with these cofactors of x in x. It holds where both are 1, the power 0 of x.
+pub fn basis_of_x(
+    rt: &(impl AllocGlobal + Abort),
+    down: &[u64],
+    up: &[u64],
+) -> Result<Cert, AllocError> {
     Ok(Cert::Basis {
         p: 2,
         order: OrderName::Grevlex,
-        given: list(alloc, power(rt, 1)?)?,
-        found: list(alloc, power(rt, 1)?)?,
-        down: table(alloc, power(rt, down)?)?,
-        up: table(alloc, power(rt, 0)?)?,
+        given: list(rt, &[1])?,
+        found: list(rt, &[1])?,
+        down: table(rt, down)?,
+        up: table(rt, up)?,
     })
 }
