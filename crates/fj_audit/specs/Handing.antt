@@ -1,6 +1,7 @@
 -- A certificate handed to a list of auditors, and the list without those that are out.
-use Rattle.std.specs.Prelude.{◌≡◌, ◌==◌, List, ◌∷◌, ◌++◌, Bool, true, not}
+use Rattle.std.specs.Prelude.{◌≡◌, ◌==◌, List, ◌∷◌, ◌++◌, ◌↔◌, Bool, true, not}
 use Rattle.std.specs.List.{AllZip}
+use Rattle.fj_io.specs.Outside.{Rose}
 use Rattle.fj_plain.specs.declared.cert.Cert.{Cert}
 use Rattle.fj_plain.specs.Holds.{Holds}
 use Rattle.fj_audit.specs.Account.{Account, after_note, Remains, IsOut, IsSameButFaults}
@@ -9,11 +10,12 @@ use Rattle.fj_audit.specs.Account.{Account, after_note, Remains, IsOut, IsSameBu
 abbrev pub HasNoted : Cert → Account → Account → Type 0
 HasNoted c before now = (b : Bool) × (now ≡ after_note before c b) × (Holds c → b ≡ true)
 
--- One auditor of the list: it noted c and remains, or failed and is out and else as before; one that was out is
--- unchanged.
+-- One auditor of the list: it noted c and remains, or failed and is out and else as before, exactly where its count of
+-- faults rose; one that was out is unchanged.
 pub record IsShown (c : Cert) (before now : Account) : Type 0 where
   pub noted : Remains before → Remains now → HasNoted c before now
   pub failed : Remains before → IsOut now → IsSameButFaults before now
+  pub cause : Remains before → IsOut now ↔ Rose before.faults now.faults
   pub unchanged : IsOut before → now ≡ before
 
 -- The same auditors at the same places, each shown c.

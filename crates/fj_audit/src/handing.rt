@@ -49,14 +49,7 @@ pub fn sweep(auditors: &mut Vec<Box<dyn Auditor>>) -> usize
     auditors.retain(
         |auditor: &Box<dyn Auditor>| -> bool
             ensures { result ≡ remains (account auditor.now) }
-        { has_no_fault(auditor) },
+        { auditor.faults() == 0 },
     );
     count - auditors.len()
-}
-
-/// Whether an auditor remains.
-fn has_no_fault(auditor: &Box<dyn Auditor>) -> bool
-    ensures { result ≡ remains (account auditor.now) }
-{
-    auditor.faults() == 0
 }
