@@ -1,0 +1,42 @@
+-- A certificate handed to a list of auditors, and the list without those that are out.
+use Rattle.std.specs.Prelude.{◌≡◌, ◌==◌, List, ◌∷◌, ◌++◌, ◌↔◌, Bool, true, not}
+use Rattle.std.specs.List.{AllZip}
+use Rattle.fj_io.specs.Outside.{Rose}
+use Rattle.fj_plain.specs.declared.cert.Cert.{Cert}
+use Rattle.fj_plain.specs.Holds.{Holds}
+use Rattle.fj_audit.specs.Account.{Account, after_note, Remains, IsOut, IsSameButFaults}
+
+-- It noted c by a note that answered, with true where c holds.
+abbrev pub HasNoted : Cert → Account → Account → Type 0
+HasNoted c before now = (b : Bool) × (now ≡ after_note before c b) × (Holds c → b ≡ true)
+
+-- One auditor of the list: it noted c and remains, or failed and is out and else as before, exactly where its count of
+-- faults rose; one that was out is unchanged.
+pub record IsShown (c : Cert) (before now : Account) : Type 0 where
+  pub noted : Remains before → Remains now → HasNoted c before now
+  pub failed : Remains before → IsOut now → IsSameButFaults before now
+  pub cause : Remains before → IsOut now ↔ Rose before.faults now.faults
+  pub unchanged : IsOut before → now ≡ before
+
+-- The same auditors at the same places, each shown c.
+abbrev pub AreShown : Cert → List Account → List Account → Type 0
+AreShown c before now = AllZip (IsShown c) before now
+
+-- The list where memory was wanting: those before an auditor that remains were shown c, and it and all after it are as
+-- before.
+pub record AreShownInPart (c : Cert) (before now : List Account) : Type 0 where
+  pub first : List Account
+  pub shown : List Account
+  pub rest : List Account
+  pub wanting : Account
+  pub before_is : before ≡ first ++ wanting ∷ rest
+  pub now_is : now ≡ shown ++ wanting ∷ rest
+  pub are_shown : AreShown c first shown
+  pub remains : Remains wanting
+
+-- Whether it remains, and whether it is out.
+abbrev pub remains : Account → Bool
+remains a = a.faults == 0
+
+abbrev pub is_out : Account → Bool
+is_out a = not (remains a)

@@ -1,0 +1,4 @@
+pub mod Account
+pub mod Counting
+pub mod Handing
+pub mod Flaky
