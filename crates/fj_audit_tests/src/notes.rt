@@ -14,7 +14,10 @@ fn recheck_finds_bad_what_does_not_hold(rt: HostRuntime) -> Result<(), AllocErro
         let cert = basis_of_x(&rt, down, one)?;
         assert_eq!(rt; recheck.note(alloc, &cert), Ok(is_good));
     }
-    assert_eq!(rt; (recheck.seen(), recheck.bad(), recheck.faults()), (3, 1, 0));
+    assert_eq!(rt;
+        (recheck.seen(), recheck.bad(), recheck.faults()),
+        (3, 1, 0)
+    );
     Ok(())
 }
 
@@ -46,7 +49,10 @@ fn flaky_fails_the_listed_notes(rt: HostRuntime) -> Result<(), AllocError> {
         (Ok(true), 2, 2),
     ] {
         assert_eq!(rt; flaky.note(alloc, &cert), wanted);
-        assert_eq!(rt; (flaky.seen(), flaky.bad(), flaky.faults()), (seen, 0, faults));
+        assert_eq!(rt;
+            (flaky.seen(), flaky.bad(), flaky.faults()),
+            (seen, 0, faults)
+        );
     }
     Ok(())
 }
