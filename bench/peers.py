@@ -4,6 +4,7 @@ Each peer writes a script with the same questions, runs it, and answers what it 
 answers can be compared. A question that a peer has no call for makes the whole session one that it doesn't answer.
 """
 
+import dataclasses
 import shutil
 
 from session import Question, Session, printed, printed_ideal, terms_of
@@ -81,6 +82,19 @@ threshold = (f, J, E) -> (at := {0/1} | candidates(char ring f, E); i := 0; j :=
 """
 
 
+def without_low_lines(session: Session) -> Session:
+    """The session with names that Macaulay2 doesn't take for a name with an index."""
+    named = lambda values: {name.replace("_", "'"): value for name, value in values.items()}
+    asked = [dataclasses.replace(q, words=[word.replace("_", "'") for word in q.words]) for q in session.questions]
+    return dataclasses.replace(
+        session,
+        polynomials=named(session.polynomials),
+        ideals=named(session.ideals),
+        points=named(session.points),
+        questions=asked,
+    )
+
+
 class Macaulay2(Peer):
     name = "Macaulay2"
     command = ["M2", "--silent", "--no-readline", "--no-prompts", "-q", "-e", "", "/dev/stdin"]
@@ -125,6 +139,8 @@ class Macaulay2(Peer):
                 return f"frobeniusNu({e}, p{f}, i{j})"
             case ["fpure", j]:
                 return f"isFPure(i{j})"
+            case ["fpure", j, at] if all(int(c) == 0 for c in session.points[at]):
+                return f"isFPure(i{j}, AtOrigin => true)"
             case ["compatible", e, u, j]:
                 return f"isSubset(frobeniusRoot({e}, ideal(p{u}) * i{j}), i{j})"
             case ["threshold", f, j, e] if j in session.ideals:
@@ -141,6 +157,7 @@ class Macaulay2(Peer):
         return f'print("{question.number} @ " | toString({self.value(question, session)}));'
 
     def script(self, session: Session) -> str:
+        session = without_low_lines(session)
         names = ",".join(session.variables)
         lines = ['needsPackage "TestIdeals";', 'needsPackage "FrobeniusThresholds";', CANDIDATES, "began = cpuTime();"]
         for order, word in self.orders.items():

@@ -7,9 +7,11 @@
 - in README.md and docs/MANUAL.md each block marked `session`, with the next block marked `answers`, and each block
   marked `sh` that such a block follows, which is run at the top of the repository with the program for `bin/fjcalc`;
 - in docs/MANUAL.md each row of a table with a session in one cell, its lines parted by a return sign, and what the
-  program writes in the next.
+  program writes in the next;
+- the sessions of table/tests/stored.txt, whose answers the tests of bin/fjcalc-table stand on.
 
-The status has to be the one that the manual tells: 2 after a fault, 3 where an answer is a stop.
+The status has to be the one that the manual tells: 2 after a fault, 3 where an answer is a stop. The tests of
+bin/fjcalc-table are run too.
 """
 
 import pathlib
@@ -21,9 +23,18 @@ HERE = pathlib.Path(__file__).resolve().parent
 TOP = HERE.parent
 SECONDS = 60
 
+sys.path[:0] = [str(TOP / "table"), str(TOP / "table" / "tests")]
+
+from stored import stored
+
 LINES = r"(?:(?!```)[^\n]*\n)*"
 BLOCKS = re.compile(rf"^```(session|sh)\n({LINES})```\n{LINES}```answers\n({LINES})```$", re.MULTILINE)
 ROWS = re.compile(r"^\|.*\| `([^`|]*⏎[^`|]*)` \| `([^`|]*)` \|$", re.MULTILINE)
+
+
+def with_program(command: str, program: str) -> str:
+    """A command of a document, with this program for bin/fjcalc."""
+    return re.sub(r"bin/fjcalc(-table)?", lambda found: f"{found[0]} --program {program}" if found[1] else program, command)
 
 
 def status_of(answers: str) -> int:
@@ -42,12 +53,14 @@ def examples(program: str):
         for block in BLOCKS.finditer(text):
             kind, asked, answers = block.groups()
             where = f"{document.name}, line {text.count(chr(10), 0, block.start()) + 1}"
-            command = ["bash", "-c", asked.replace("bin/fjcalc", program)]
+            command = ["bash", "-c", with_program(asked, program)]
             yield (where, answering, asked, answers) if kind == "session" else (where, command, "", answers)
         for row in ROWS.finditer(text):
             where = f"{document.name}, line {text.count(chr(10), 0, row.start()) + 1}"
             lines = [line.strip() for line in row[1].split("⏎")]
             yield where, answering, "\n".join(lines) + "\n", row[2] + "\n"
+    for session, answers in stored().items():
+        yield "table/tests/stored.txt, " + " / ".join(session.splitlines()), answering, session, answers
 
 
 def run(command: list[str], asked: str) -> tuple[str, int | str]:
@@ -69,8 +82,9 @@ def main() -> None:
             continue
         failed += 1
         print(f"{where}: status {status}, wanted {status_of(answers)}\n--- written\n{written}--- wanted\n{answers}")
-    print(f"examples: {passed} passed, {failed} failed")
-    sys.exit(1 if failed or not passed else 0)
+    print(f"examples: {passed} passed, {failed} failed", flush=True)
+    tests = subprocess.run([sys.executable, "-B", TOP / "table" / "tests" / "test_table.py"])
+    sys.exit(1 if failed or not passed else tests.returncode)
 
 
 if __name__ == "__main__":

@@ -1,3 +1,4 @@
 mod Copied
 mod Dropped
 mod Progress
+pub mod Shown

@@ -1,5 +1,5 @@
 -- A certificate handed to a list of auditors, and the list without those that are out.
-use Rattle.std.specs.Prelude.{◌≡◌, ◌==◌, List, ◌∷◌, ◌++◌, ◌↔◌, Bool, true, not}
+use Rattle.std.specs.Prelude.{◌≡◌, ◌==◌, ◌⊎◌, ℕ, ◌<◌, ◌+◌, List, [], ◌∷◌, ◌++◌, ◌↔◌, Bool, true, not, length, take}
 use Rattle.std.specs.List.{AllZip}
 use Rattle.fj_io.specs.Outside.{Rose}
 use Rattle.fj_plain.specs.declared.cert.Cert.{Cert}
@@ -40,3 +40,42 @@ remains a = a.faults == 0
 
 abbrev pub is_out : Account → Bool
 is_out a = not (remains a)
+
+-- The account after notes of these certificates, the first first, that found each of them good.
+unfoldable pub after_good : Account → List Cert → Account
+after_good a [] = a
+after_good a (c ∷ certs) = after_good (after_note a c true) certs
+
+-- It noted certificates up to one of the list, which it failed, and is else as it was then.
+pub record IsOutWithin (certs : List Cert) (before now : Account) : Type 0 where
+  pub count : ℕ
+  pub short : count < length certs
+  pub same : IsSameButFaults (after_good before (take count certs)) now
+
+-- One auditor, shown a list of certificates that hold: it noted all of them and found none bad, or failed one of them and is
+-- out; one that was out is unchanged.
+pub record IsShownAll (certs : List Cert) (before now : Account) : Type 0 where
+  pub noted : Remains before → Remains now → now ≡ after_good before certs
+  pub failed : Remains before → IsOut now → IsOutWithin certs before now
+  pub unchanged : IsOut before → now ≡ before
+
+-- The same auditors at the same places, each shown all of these certificates.
+abbrev pub AreShownAll : List Cert → List Account → List Account → Type 0
+AreShownAll certs before now = AllZip (IsShownAll certs) before now
+
+-- One auditor where memory was wanting after the first k certificates: it noted these, or one more.
+pub record IsShownFront (certs : List Cert) (k : ℕ) (before now : Account) : Type 0 where
+  pub noted : Remains before → Remains now → (now ≡ after_good before (take k certs)) ⊎ (now ≡ after_good before (take (k + 1) certs))
+  pub failed : Remains before → IsOut now → IsOutWithin certs before now
+  pub unchanged : IsOut before → now ≡ before
+
+-- The same auditors at the same places, with one k.
+pub record AreShownFront (certs : List Cert) (before now : List Account) : Type 0 where
+  pub k : ℕ
+  pub short : k < length certs
+  pub shown : AllZip (IsShownFront certs k) before now
+
+-- The auditor of the same title, which found no more certificates bad than before.
+pub record IsAsGood (before now : Account) : Type 0 where
+  pub title : now.title ≡ before.title
+  pub bad : now.bad ≡ before.bad

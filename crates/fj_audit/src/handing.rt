@@ -1,7 +1,8 @@
 //! A certificate handed to a list of auditors, and the list without those that are out.
-ghost use Rattle.std.specs.Prelude.{◌≡◌, length, map, filter, OnOk, OnErr};
+ghost use Rattle.std.specs.Prelude.{◌≡◌, length, map, filter, All, OnOk, OnErr};
+ghost use Rattle.fj_plain.specs.Holds.{Holds};
 ghost use Rattle.fj_audit.specs.Account.{Remains};
-ghost use Rattle.fj_audit.specs.Handing.{IsShown, AreShown, AreShownInPart, remains, is_out};
+ghost use Rattle.fj_audit.specs.Handing.{IsShown, AreShown, AreShownAll, AreShownFront, AreShownInPart, remains, is_out};
 
 use crate::auditor::Auditor;
 use crate::fault::AuditFault;
@@ -38,6 +39,24 @@ fn show(alloc: Global, auditor: &mut Box<dyn Auditor>, c: &Cert) -> Result<(), A
         Err(AuditFault::Memory) => Err(AllocError),
         Ok(_) | Err(AuditFault::Failed) => Ok(()),
     }
+}
+
+/// Hands certificates that hold to each auditor that remains, one after the other, and each in the order of the auditors. An
+/// auditor that remains has noted all of them and found none bad. Where a note wants memory there is one number k such that each
+/// that remains has noted the first k certificates, or one more.
+pub fn hand_on_all(
+    alloc: Global,
+    auditors: &mut Vec<Box<dyn Auditor>>,
+    certs: &[Cert],
+) -> Result<(), AllocError>
+    requires { All Holds certs.now }
+    ensures shown { OnOk result (AreShownAll certs.now (map account auditors.old.items) (map account auditors.new.items)) }
+    ensures wanting { OnErr result (AreShownFront certs.now (map account auditors.old.items) (map account auditors.new.items)) }
+{
+    for c in certs {
+        hand_on(alloc, auditors, c)?;
+    }
+    Ok(())
 }
 
 /// Drops the auditors that are out, keeps the others in order, and answers how many were dropped.

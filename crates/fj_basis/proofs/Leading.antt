@@ -132,14 +132,14 @@ s-sugar F key G i j = refl
 
 -- Where the sugar of an S-polynomial is within the limit, so is the least common multiple.
 pub some_multiple : {R : Type 0} (F : Field) (key : List ℕ → List ℕ) (G : List Sugared) (p : Pair R) → IsPairOf key G p → (s_polynomial F key G (p.i, p.j)).sugar ≤ degree_limit
-    → (o : Option Monomial) → o ≡ p.multiple → is_some o ≡ true
+    → (o : Option Monomial) → o ≡ p.lcm → is_some o ≡ true
 some_multiple F key G p own low (Some m) e = refl
 some_multiple F key G p own low None e =
-    let high : degree_limit < total (pair_multiple key G (p.i, p.j)) = subst (IsWithinLimit (pair_multiple key G (p.i, p.j))) (sym e) own.multiple in
+    let high : degree_limit < total (pair_multiple key G (p.i, p.j)) = subst (IsWithinLimit (pair_multiple key G (p.i, p.j))) (sym e) own.lcm in
     absurd (omega (arith, s-sugar F key G p.i p.j, high, low))
 
-pub multiple_is : {R : Type 0} (key : List ℕ → List ℕ) (G : List Sugared) (p : Pair R) → IsPairOf key G p → (m : Monomial) → Some m ≡ p.multiple → m.exponents ≡ pair_multiple key G (p.i, p.j)
-multiple_is key G p own m e = subst (IsWithinLimit (pair_multiple key G (p.i, p.j))) (sym e) own.multiple
+pub multiple_is : {R : Type 0} (key : List ℕ → List ℕ) (G : List Sugared) (p : Pair R) → IsPairOf key G p → (m : Monomial) → Some m ≡ p.lcm → m.exponents ≡ pair_multiple key G (p.i, p.j)
+multiple_is key G p own m e = subst (IsWithinLimit (pair_multiple key G (p.i, p.j))) (sym e) own.lcm
 
 -- Its polynomial.
 pub s-polynomial : (F : Field) (key : List ℕ → List ℕ) (G : List Sugared) (i j : ℕ)

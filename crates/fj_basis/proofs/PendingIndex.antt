@@ -137,13 +137,13 @@ module _ {O : Type 0} {leads : List (List ℕ)} {pairs : List (Pair O)} {rows : 
       kept k m = get_or_append_left leads (a ∷ []) [] k m
 
       known : (p : Pair O) → (p.i < p.j) × (p.j < length leads) → IsPairOver leads p → IsPairOver (leads ++ (a ∷ [])) p
-      known p both own = subst₂ (λ x y. IsWithinLimit (least_common_multiple x y) p.multiple) (sym (kept p.i (let u = both.0 in let v = both.1 in omega (arith, u, v)))) (sym (kept p.j both.1)) own
+      known p both own = subst₂ (λ x y. IsWithinLimit (least_common_multiple x y) p.lcm) (sym (kept p.i (let u = both.0 in let v = both.1 in omega (arith, u, v)))) (sym (kept p.j both.1)) own
 
 -- The pair of a place with the last one.
 pub pair-over : {O : Type 0} (leads now : List (List ℕ)) (lead : List ℕ) (p : Pair O) (i : ℕ) (m : List ℕ) → now ≡ leads ++ (lead ∷ []) → p.i ≡ i → p.j ≡ length leads
-    → get_or now i [] ≡ m → IsWithinLimit (least_common_multiple m lead) p.multiple → IsPairOver now p
+    → get_or now i [] ≡ m → IsWithinLimit (least_common_multiple m lead) p.lcm → IsPairOver now p
 pair-over leads now lead p i m grown first second at own =
-    subst (λ a. IsWithinLimit a p.multiple)
+    subst (λ a. IsWithinLimit a p.lcm)
     (ap₂ least_common_multiple (sym (ap (λ k. get_or now k []) first ∙ at)) (sym (ap (λ xs. get_or xs p.j []) grown ∙ get_or_push leads lead [] p.j (sym second)))) own
 
 -- Pairs of the same places stand at one place.
@@ -157,7 +157,7 @@ same-place {O} key leads p q own other e d = at p own ∙ ap₂ stands e d ∙ s
         cond (nat_le (total a) degree_limit) (0 ∷ (key a ++ (j ∷ (i ∷ [])))) (1 ∷ (j ∷ (i ∷ [])))
 
     at : (r : Pair O) → IsPairOver leads r → place key r ≡ stands r.i r.j
-    at r h = within-place key (least_common_multiple (get_or leads r.i []) (get_or leads r.j [])) (r.j ∷ (r.i ∷ [])) r.multiple h
+    at r h = within-place key (least_common_multiple (get_or leads r.i []) (get_or leads r.j [])) (r.j ∷ (r.i ∷ [])) r.lcm h
 
 module _ {O : Type 0} (key : List ℕ → List ℕ) {leads : List (List ℕ)} where
   -- A pair comes to be pending, and is marked.

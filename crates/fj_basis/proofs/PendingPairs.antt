@@ -63,7 +63,7 @@ module _ {O : Type 0} (key : List ℕ → List ℕ) where
   -- The place at which the code keeps a pair.
   pub place-is : (G : List Sugared) (p : Pair O) → IsPairOf key G p → place key p ≡ pair_place key G (p.i, p.j)
   unfolding place pair_place
-  place-is G p own = within-place key (pair_multiple key G (p.i, p.j)) (p.j ∷ (p.i ∷ [])) p.multiple own.multiple
+  place-is G p own = within-place key (pair_multiple key G (p.i, p.j)) (p.j ∷ (p.i ∷ [])) p.lcm own.lcm
 
   module _ (s : definition.Run) (p : Pair O) (rest : List (Pair O)) (pending : ArePending key s (p ∷ rest)) (above : All (λ q. order_of_pairs p q ≡ Less) rest) where
     abbrev place_of : ℕ × ℕ → List ℕ
@@ -128,8 +128,8 @@ module _ {O : Type 0} (key : List ℕ → List ℕ) where
       let none : Sugared = record { polynomial = empty; sugar = 0 } in
       let same : (k : ℕ) → k < length G → get_or G k none ≡ get_or (G ++ (g ∷ [])) k none = (λ k n. sym (get_or_append_left G (g ∷ []) none k n)) in
       record {
-        multiple = subst (λ a. IsWithinLimit a p.multiple)
-            (ap₂ (λ (x y : Sugared). least_common_multiple (lead_exponents key x.polynomial) (lead_exponents key y.polynomial)) (same p.i l) (same p.j m)) own.multiple;
+        lcm = subst (λ a. IsWithinLimit a p.lcm)
+            (ap₂ (λ (x y : Sugared). least_common_multiple (lead_exponents key x.polynomial) (lead_exponents key y.polynomial)) (same p.i l) (same p.j m)) own.lcm;
       }
 
   -- A pair over the leads of a list.
@@ -140,7 +140,7 @@ module _ {O : Type 0} (key : List ℕ → List ℕ) where
       let none : Sugared = record { polynomial = empty; sugar = 0 } in
       let at : (k : ℕ) → k < length G → get_or leads k [] ≡ lead_exponents key (get_or G k none).polynomial =
       (λ k h. ap (λ xs. get_or xs k []) e ∙ get_or-map (λ (g : Sugared). lead_exponents key g.polynomial) G k none [] h) in
-      record { multiple = subst (λ a. IsWithinLimit a p.multiple) (ap₂ least_common_multiple (at p.i l) (at p.j m)) own }
+      record { lcm = subst (λ a. IsWithinLimit a p.lcm) (ap₂ least_common_multiple (at p.i l) (at p.j m)) own }
 
   -- A member is appended with its pairs.
   pub IsPendingOf-append : (s : definition.Run) (g : Sugared) (before after : PendingPairs O) → ((i j : ℕ) → Contains s.pending (i, j) → (i < j) × (j < length s.members))

@@ -49,7 +49,7 @@ last_two xs ys i j k l e =
 module _ {O : Type 0} (key : List ℕ → List ℕ) where
   place_ends : (p : Pair O) → (xs : List ℕ) × (place key p ≡ xs ++ (p.j ∷ (p.i ∷ [])))
   unfolding place place_by
-  place_ends p = by p.multiple
+  place_ends p = by p.lcm
     where
       by : (m : Option Monomial) → (xs : List ℕ) × (place_by key m (p.j ∷ (p.i ∷ [])) ≡ xs ++ (p.j ∷ (p.i ∷ [])))
       by (Some m) = (0 ∷ key m.exponents, refl)

@@ -6,11 +6,12 @@ use Rattle.std.proofs.lemmas.Nat.{mod_below, div-add-mod'}
 use Rattle.fj_coeff.specs.Field.{Field, IsField, multiple}
 use Rattle.fj_coeff.specs.PrimeField.{prime_field}
 use Rattle.fj_theory.specs.Exponents.{divides, minus, plus}
-use Rattle.fj_theory.specs.Polynomial.{Polynomial, IsPolynomial, coefficient, convolution, product, sum, support, total_over, with_coefficients}
+use Rattle.fj_theory.specs.Polynomial.{Polynomial, IsPolynomial, coefficient, convolution, power, product, sum, support, total_over, with_coefficients}
 use Rattle.fj_theory.specs.Ideal.{ArePolynomials, list_combination}
 use Rattle.fj_theory.proofs.Field.{characteristic_large, one_below, zero_below}
 use Rattle.fj_theory.proofs.Polynomial.{coefficient_below}
 use Rattle.fj_theory.proofs.Product.{IsPolynomial-product, total_over_below}
+use Rattle.fj_theory.proofs.PolynomialRing.{IsPolynomial-power}
 use Rattle.fj_theory.proofs.IdealBridge.{ArePolynomials-head, ArePolynomials-tail}
 use Rattle.fj_groebner.proofs.Rows.{IsPolynomial-list_combination}
 
@@ -102,6 +103,11 @@ module _ {F : Field} (L : IsField F) where
         let same : convolution F f g ≡ convolution (prime_field F.characteristic) f g =
         (λ i a. total_is _ _ (low a) (λ b. part_is (divides b a) (coefficient f b) (coefficient g (minus a b)) (coefficient_below P (zero_below L) b) (coefficient_below Q (zero_below L) (minus a b))) (support f) i) in
         ap (λ (c : List ℕ → ℕ). with_coefficients c (flat_map (λ b. map (plus b) (support g)) (support f))) same
+
+    pub power_is : {f : Polynomial} → IsPolynomial F f → (k : ℕ) → power F f k ≡ power (prime_field F.characteristic) f k
+    unfolding power
+    power_is P zero = refl
+    power_is {f} P (suc k) = product_is P (IsPolynomial-power L P k) ∙ ap (product (prime_field F.characteristic) f) (power_is P k)
 
     -- Combinations are those over the prime field.
     pub combination_is : (cs N : List Polynomial) → ArePolynomials F cs → ArePolynomials F N → list_combination F cs N ≡ list_combination (prime_field F.characteristic) cs N

@@ -5,8 +5,8 @@ use Rattle.fj_theory.specs.Polynomial.{Polynomial}
 use Rattle.fj_plain.specs.declared.order_name.OrderName.{OrderName}
 use Rattle.fj_poly.specs.declared.fault.PolyFault.{PolyFault}
 use Rattle.fj_poly.specs.declared.fault.PolyFault.TheVariants as product
-use Rattle.fj_basis.specs.declared.calculation.RunFault.{RunFault}
-use Rattle.fj_basis.specs.declared.calculation.RunFault.TheVariants as run
+use Rattle.fj_basis.specs.declared.buchberger.RunFault.{RunFault}
+use Rattle.fj_basis.specs.declared.buchberger.RunFault.TheVariants as run
 use Rattle.fj_basis.specs.declared.stop.Stop.{Stop}
 use Rattle.fj_basis.specs.Outcome.{IsFaultOnlyWhere, IsHighOnlyWhere, IsStopOf, IsStopWhere, run_fault}
 

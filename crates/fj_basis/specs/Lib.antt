@@ -10,5 +10,5 @@ pub mod State
 pub mod Outcome
 pub mod Finished
 pub mod Basis
-pub mod Calculation
+pub mod Buchberger
 pub mod Leads

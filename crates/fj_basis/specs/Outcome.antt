@@ -11,8 +11,8 @@ use Rattle.fj_plain.specs.declared.order_name.OrderName.{OrderName}
 use Rattle.fj_plain.specs.declared.lists.Kept.{Kept}
 use Rattle.fj_basis.specs.declared.stop.Stop.{Stop}
 use Rattle.fj_basis.specs.declared.stop.Stop.TheVariants.{Pairs, High, Product, Memory}
-use Rattle.fj_basis.specs.declared.calculation.RunFault.{RunFault}
-use Rattle.fj_basis.specs.declared.calculation.RunFault.TheVariants as run
+use Rattle.fj_basis.specs.declared.buchberger.RunFault.{RunFault}
+use Rattle.fj_basis.specs.declared.buchberger.RunFault.TheVariants as run
 
 -- The terms of each polynomial of the list fall in the order of the key.
 abbrev pub TermsFall : (List ℕ → List ℕ) → List plain.PlainPolynomial → Type 0

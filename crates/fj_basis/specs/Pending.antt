@@ -15,7 +15,7 @@ HasPair {O} pairs i j = (p : Pair O) × Contains pairs p × (p.i ≡ i) × (p.j 
 
 -- The pair with the least common multiple of its leads.
 abbrev pub IsPairOver : {O : Type 0} → List (List ℕ) → Pair O → Type 0
-IsPairOver leads p = IsWithinLimit (least_common_multiple (slice_index_or leads p.i []) (slice_index_or leads p.j [])) p.multiple
+IsPairOver leads p = IsWithinLimit (least_common_multiple (slice_index_or leads p.i []) (slice_index_or leads p.j [])) p.lcm
 
 -- Row j says for each place i before j whether the pair of i and j is in the list, whose pairs are of the leads.
 pub record IsIndexed {O : Type 0} (leads : List (List ℕ)) (pairs : List (Pair O)) (rows : List (List Bool)) : Type 0 where

@@ -11,7 +11,7 @@ place_by key (Some m) rest = 0 ∷ (key m.exponents ++ rest)
 place_by key None rest = 1 ∷ rest
 
 unfoldable pub place : {O : Type 0} → (List ℕ → List ℕ) → Pair O → List ℕ
-place key p = place_by key p.multiple (p.j ∷ p.i ∷ [])
+place key p = place_by key p.lcm (p.j ∷ p.i ∷ [])
 
 -- The monomial with these exponents, and none where they are above the limit.
 abbrev pub IsWithinLimit : List ℕ → Option Monomial → Type 0

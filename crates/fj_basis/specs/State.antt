@@ -18,7 +18,7 @@ use Rattle.fj_basis.specs.Pending.{HasPair, PendingPairs}
 
 -- The pair with the least common multiple of its leads.
 pub record IsPairOf {O : Type 0} (key : List ℕ → List ℕ) (G : List Sugared) (p : Pair O) : Type 0 where
-  pub multiple : IsWithinLimit (definition.pair_multiple key G (p.i, p.j)) p.multiple
+  pub lcm : IsWithinLimit (definition.pair_multiple key G (p.i, p.j)) p.lcm
 
 -- The pairs of the list are the pending ones.
 pub record ArePending {O : Type 0} (key : List ℕ → List ℕ) (s : definition.Run) (pairs : List (Pair O)) : Type 0 where

@@ -36,6 +36,7 @@ pub(crate) fn plain_table<K: Coeff, O: Order>(
 ) -> Result<PlainTable, AllocError>
     ensures value { IfOk result (λ plain. map (map polynomial) plain ≡ map (λ row. row.items) rows.now) }
     ensures ranks { IfOk result (AllRowsBelow K.field.size) }
+    ensures totals { IfOk result (All TotalsAreLow) }
 {
     let mut plain = Vec::with_capacity(alloc, rows.len())?;
     for row in rows {

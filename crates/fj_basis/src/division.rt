@@ -17,8 +17,8 @@ ghost use Rattle.fj_poly.specs.Slots.{without_lead};
 
 use crate::cofactors::zero_row;
 use crate::divisor::Divisor;
-use crate::handed::{look_over, sugar_of};
 use crate::leads::Leads;
+use crate::sugar::{look_over, sugar_of};
 use fj_coeff::Coeff;
 use fj_mono::{DEGREE_LIMIT, Mono, Order};
 use fj_poly::{Buckets, Poly, PolyFault};

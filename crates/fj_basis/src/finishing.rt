@@ -14,9 +14,9 @@ ghost use Rattle.fj_basis.specs.Members.{sugared, sugared_members};
 ghost use Rattle.fj_basis.specs.Outcome.{IsHighOnlyWhere};
 
 use crate::division::divide_sugared;
-use crate::handed::sugar_of;
 use crate::history::{History, Source, Summand, with_negatives};
 use crate::members::{Member, Row};
+use crate::sugar::sugar_of;
 use fj_coeff::Coeff;
 use fj_mono::{Mono, Order};
 use fj_poly::{Poly, PolyFault};

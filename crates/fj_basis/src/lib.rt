@@ -2,14 +2,13 @@
 //! certificates.
 #![tactic(auto)]
 
-mod calculation;
+mod buchberger;
 mod certificate;
 mod cofactors;
 mod division;
 mod divisor;
 mod finishing;
 mod forming;
-mod handed;
 mod history;
 mod leads;
 mod members;
@@ -17,12 +16,13 @@ mod pairs;
 mod pending;
 mod run;
 mod stop;
+mod sugar;
 pub mod types;
 
-pub use calculation::{basis, reduced_basis};
+pub use buchberger::{basis, reduced_basis};
 pub use certificate::{kept, plain_list};
 pub use division::divide;
-pub use handed::look_over;
 pub use leads::Leads;
 pub use stop::Stop;
+pub use sugar::look_over;
 pub use types::copy_list;

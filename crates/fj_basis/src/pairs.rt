@@ -15,7 +15,7 @@ use std::marker::PhantomData;
 pub(crate) struct Pair<O: Order> {
     i: usize,
     j: usize,
-    multiple: Option<Mono>,
+    lcm: Option<Mono>,
     order: PhantomData<O>,
 }
 
@@ -24,12 +24,12 @@ impl<O: Order> Pair<O> {
     pub(crate) fn new(i: usize, j: usize, a: &Mono, b: &Mono) -> Pair<O>
         ensures first { result.i ≡ i }
         ensures second { result.j ≡ j }
-        ensures multiple { IsWithinLimit (least_common_multiple a.now.exponents b.now.exponents) result.multiple }
+        ensures lcm { IsWithinLimit (least_common_multiple a.now.exponents b.now.exponents) result.lcm }
     {
         Pair {
             i,
             j,
-            multiple: a.lcm(b).ok(),
+            lcm: a.lcm(b).ok(),
             order: PhantomData,
         }
     }
@@ -47,10 +47,10 @@ impl<O: Order> Pair<O> {
     }
 
     /// The least common multiple of the leads, where it is not above the limit.
-    pub(crate) fn multiple(&self) -> Option<Mono>
-        ensures { result ≡ self.now.multiple }
+    pub(crate) fn lcm(&self) -> Option<Mono>
+        ensures { result ≡ self.now.lcm }
     {
-        self.multiple
+        self.lcm
     }
 
     // The order by the places alone.
@@ -95,7 +95,7 @@ impl<O: Order> Ord for Pair<O> {
     ghost matches_eq = { λ a b. refl };
 
     fn cmp(&self, o: &Pair<O>) -> Ordering {
-        match (&self.multiple, &o.multiple) {
+        match (&self.lcm, &o.lcm) {
             (Some(a), Some(b)) => O::cmp(a, b).then(self.compare_places(o)),
             (Some(_), None) => Ordering::Less,
             (None, Some(_)) => Ordering::Greater,

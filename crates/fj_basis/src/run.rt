@@ -16,11 +16,11 @@ ghost use Rattle.fj_basis.specs.State.{IsAfter, IsFirstMember, IsHighNext, IsNex
 
 use crate::division::divide_sugared;
 use crate::divisor::Divisor;
-use crate::handed::{look_over, sugar_of};
 use crate::history::{History, Source, Summand, with_negatives};
 use crate::members::Member;
 use crate::pairs::Pair;
 use crate::pending::Pending;
+use crate::sugar::{look_over, sugar_of};
 use fj_coeff::Coeff;
 use fj_mono::{DEGREE_LIMIT, Mono, Order};
 use fj_poly::{Poly, PolyFault};
@@ -199,7 +199,7 @@ impl<K: Coeff, O: Order> Run<K, O> {
         ensures low { IfOk result (λ s. s.1 ≤ degree_limit) }
         ensures high { IsHighOnlyWhere (degree_limit < (s_polynomial K.field O.key (sugared_members self.now.members.items) (pair.now.i, pair.now.j)).sugar) result }
     {
-        let Some(multiple) = pair.multiple() else {
+        let Some(multiple) = pair.lcm() else {
             return Err(PolyFault::High);
         };
         let above = self.above(pair.first()).max(self.above(pair.second()));
@@ -245,7 +245,7 @@ impl<K: Coeff, O: Order> Run<K, O> {
         requires low { (s_polynomial K.field O.key (sugared_members self.now.members.items) (pair.now.i, pair.now.j)).sugar ≤ degree_limit }
         ensures { IfOk result (λ both. ArePairSummands K.field O.key (sugared_members self.now.members.items) (pair.now.i, pair.now.j) both.items) }
     {
-        let multiple = pair.multiple().unwrap();
+        let multiple = pair.lcm().unwrap();
         let first = self.summand(alloc, K::one(), pair.first(), &multiple)?;
         let second = self.summand(alloc, K::one().neg(), pair.second(), &multiple)?;
         Ok(vec![in alloc; first, second]?)

@@ -6,6 +6,7 @@ ghost use Rattle.fj_basis.specs.Basis.{IsCertificateOf, IsMadeOf, cofactor};
 
 mod copy;
 mod itself;
+mod plain;
 
 use crate::certificate::{plain_list, plain_table};
 use crate::members::Row;

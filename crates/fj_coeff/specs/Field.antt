@@ -2,13 +2,13 @@
 use Rattle.std.specs.Prelude.{◌≡◌, ℕ, zero, suc, ◌<◌, ◌≤◌, ◌==◌, Bool, Contains, List, [], ◌∷◌}
 use Rattle.std.specs.List.{list_any}
 
--- The primes that a coefficient field may have as its characteristic.
+-- The primes that a coefficient field may have as its characteristic: those up to 31.
 unfoldable pub primes : List ℕ
-primes = 2 ∷ 3 ∷ 5 ∷ 7 ∷ 11 ∷ 13 ∷ []
+primes = 2 ∷ 3 ∷ 5 ∷ 7 ∷ 11 ∷ 13 ∷ 17 ∷ 19 ∷ 23 ∷ 29 ∷ 31 ∷ []
 
 -- The greatest of them.
 abbrev pub greatest_prime : ℕ
-greatest_prime = 13
+greatest_prime = 31
 
 -- Whether a number is one of them, as a test.
 unfoldable pub is_prime : ℕ → Bool

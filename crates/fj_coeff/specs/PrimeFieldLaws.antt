@@ -144,3 +144,23 @@ prime_11 = (4, lit< tt, refl)
 pub prime_13 : Contains primes 13
 unfolding primes
 prime_13 = (5, lit< tt, refl)
+
+pub prime_17 : Contains primes 17
+unfolding primes
+prime_17 = (6, lit< tt, refl)
+
+pub prime_19 : Contains primes 19
+unfolding primes
+prime_19 = (7, lit< tt, refl)
+
+pub prime_23 : Contains primes 23
+unfolding primes
+prime_23 = (8, lit< tt, refl)
+
+pub prime_29 : Contains primes 29
+unfolding primes
+prime_29 = (9, lit< tt, refl)
+
+pub prime_31 : Contains primes 31
+unfolding primes
+prime_31 = (10, lit< tt, refl)

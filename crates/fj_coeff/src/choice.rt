@@ -43,6 +43,16 @@ pub fn over_prime_field<W: OverField>(p: u64, work: &mut W) -> W::Output
         work.over::<Fp<11>>()
     } else if p == 13 {
         work.over::<Fp<13>>()
+    } else if p == 17 {
+        work.over::<Fp<17>>()
+    } else if p == 19 {
+        work.over::<Fp<19>>()
+    } else if p == 23 {
+        work.over::<Fp<23>>()
+    } else if p == 29 {
+        work.over::<Fp<29>>()
+    } else if p == 31 {
+        work.over::<Fp<31>>()
     } else {
         unreachable!()
     }

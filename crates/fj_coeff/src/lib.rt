@@ -1,4 +1,4 @@
-//! Coefficient fields: the trait `Coeff` of finite fields on ranks, GF(p) for the primes of a table, and the choice of the
+//! Coefficient fields: the trait `Coeff` of finite fields on ranks, GF(p) for the primes up to 31, and the choice of the
 //! field for a prime. Nothing here takes memory.
 #![tactic(auto)]
 

@@ -2,10 +2,10 @@
 //! an impl of `TablePrime` with its law, and a case of `over_prime_field`.
 ghost use Rattle.std.specs.Prelude.{◌≡◌, ◌↔◌, Contains, IsTrue};
 ghost use Rattle.fj_coeff.specs.Field.{is_prime, primes};
-ghost use Rattle.fj_coeff.specs.PrimeFieldLaws.{prime_2, prime_3, prime_5, prime_7, prime_11, prime_13};
+ghost use Rattle.fj_coeff.specs.PrimeFieldLaws.{prime_2, prime_3, prime_5, prime_7, prime_11, prime_13, prime_17, prime_19, prime_23, prime_29, prime_31};
 
-/// The primes of the coefficient fields, rising.
-pub const PRIMES: [u64; 6] = [2, 3, 5, 7, 11, 13];
+/// The primes of the coefficient fields, rising: the primes up to 31.
+pub const PRIMES: [u64; 11] = [2, 3, 5, 7, 11, 13, 17, 19, 23, 29, 31];
 
 /// Whether p is one of the primes of the coefficient fields.
 pub fn is_prime(p: u64) -> bool
@@ -45,4 +45,24 @@ impl TablePrime<11> for Primes {
 
 impl TablePrime<13> for Primes {
     ghost is_prime = { prime_13 };
+}
+
+impl TablePrime<17> for Primes {
+    ghost is_prime = { prime_17 };
+}
+
+impl TablePrime<19> for Primes {
+    ghost is_prime = { prime_19 };
+}
+
+impl TablePrime<23> for Primes {
+    ghost is_prime = { prime_23 };
+}
+
+impl TablePrime<29> for Primes {
+    ghost is_prime = { prime_29 };
+}
+
+impl TablePrime<31> for Primes {
+    ghost is_prime = { prime_31 };
 }

@@ -1,1 +1,2 @@
+pub mod PlainParts
 pub mod Operations

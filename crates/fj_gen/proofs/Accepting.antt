@@ -1,8 +1,6 @@
 -- Generated sessions are accepted.
-use Rattle.std.proofs.Common.{◌≡◌, ◌≢◌, ℕ, ◌%◌, List, [], ◌++◌, get_or, map, AllPairs, Contains, sym, ap, ◌∙◌, subst, arith, codes}
+use Rattle.std.proofs.Common.{◌≡◌, ◌≢◌, ℕ, List, [], ◌++◌, get_or, map, AllPairs, Contains, sym, ap, ◌∙◌, subst, arith, codes}
 use Rattle.std.specs.List.{flat_map, range_with_len}
-use Rattle.std.proofs.lemmas.List.Elements.{Contains-get_or}
-use Rattle.std.proofs.lemmas.Nat.{mod_below}
 use Rattle.fj_coeff.specs.Field.{primes}
 use Rattle.fj_coeff.specs.PrimeFieldLaws.{prime_bounds}
 use Rattle.fj_theory.proofs.Exponents.{heads_same}
@@ -17,11 +15,8 @@ use Rattle.fj_gen.proofs.Lengths.{session_short}
 use Rattle.fj_gen.proofs.LineTokens.{ring_read, ring_tokens}
 use Rattle.fj_gen.proofs.Pieces.{line_read}
 use Rattle.fj_gen.proofs.Polynomials.{xy}
+use Rattle.fj_gen.proofs.Primes.{prime_in_table}
 use Rattle.fj_gen.proofs.Statements.{after_none, rest_of}
-
-prime_listed : (n : ℕ) → Contains primes (prime_for n)
-unfolding primes
-prime_listed n = Contains-get_or primes (n % 6) 0 (mod_below n 6 (omega arith))
 
 apart : AllPairs (λ v w. v ≢ w) xy
 apart j k d before inside e =
@@ -38,7 +33,7 @@ pub generated_accepted : GeneratedIsAccepted
 unfolding generated
 generated_accepted n some few =
     let p = prime_for n in
-    let prime = prime_listed n in
+    let prime = prime_in_table n in
     let bounds = prime_bounds p prime in
     let R = rest_of prime n 0 (omega arith) [] 0 [] after_none in
     let rest : List ℕ = flat_map (lines_at p) (range_with_len 1 n) in

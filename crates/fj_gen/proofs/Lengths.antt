@@ -4,6 +4,7 @@ use Rattle.std.specs.List.{flat_map, range_with_len}
 use Rattle.std.proofs.lemmas.Fmt.{length-decimal-le}
 use Rattle.std.proofs.lemmas.List.{length-append}
 use Rattle.std.proofs.lemmas.Nat.{mod_below}
+use Rattle.fj_coeff.specs.Field.{greatest_prime}
 use Rattle.fj_gen.specs.Generated.{jumps_line, lines_at, name_at, numerator_at, poly_line, ring_line, test_line, x_exponent, y_exponent}
 
 record IsShort (bytes : List ℕ) (most : ℕ) : Type 0 where
@@ -34,7 +35,7 @@ jumps_short i low =
     let end : IsShort (codes " 1\n") 3 = record { short = omega arith } in
     joined (joined ask (name_short i low)) end
 
-test_short : (p i : ℕ) → 0 < p → p ≤ 13 → i < 2 ^ 32 → IsShort (test_line p i) 43
+test_short : (p i : ℕ) → 0 < p → p ≤ greatest_prime → i < 2 ^ 32 → IsShort (test_line p i) 43
 test_short p i positive small low =
     let ask : IsShort (codes "ask test ") 9 = record { short = omega arith } in
     let blank : IsShort (codes " ") 1 = record { short = omega arith } in
@@ -43,7 +44,7 @@ test_short p i positive small low =
     let m = mod_below i p positive in
     joined (joined (joined (joined (joined (joined ask (name_short i low)) blank) (number_short (numerator_at p i) (omega (arith, m, small)))) slash) (number_short p (omega (arith, small)))) end
 
-module _ (p : ℕ) (positive : 0 < p) (small : p ≤ 13) where
+module _ (p : ℕ) (positive : 0 < p) (small : p ≤ greatest_prime) where
   ring_short : IsShort (ring_line p) 21
   ring_short =
       let ring : IsShort (codes "ring ") 5 = record { short = omega arith } in

@@ -2,6 +2,7 @@
 use Rattle.std.proofs.Common.{◌≡◌, ℕ, ◌+◌, ◌%◌, ◌^◌, ◌<◌, ◌≤◌, List, [], ◌∷◌, ◌++◌, map, refl, ap, ◌∙◌, sym, subst, append_assoc, arith, codes, decimal}
 use Rattle.std.proofs.lemmas.List.Sums.{AllPass-from_list_all}
 use Rattle.std.proofs.lemmas.Nat.{mod_below}
+use Rattle.fj_coeff.specs.Field.{greatest_prime}
 use Rattle.fj_text.specs.Word.{is_word_byte, IsWord}
 use Rattle.fj_text.specs.Token.{Token, Word, Number, Sign, caret, plus, token_at, tokens_from}
 use Rattle.fj_text.proofs.PrintedTokens.{IsSign, caret_sign, plus_sign}
@@ -72,7 +73,7 @@ jumps_tokens i = Word (codes "ask") ∷ Word (codes "jumps") ∷ Word (name_at i
 abbrev pub test_tokens : ℕ → ℕ → List Token
 test_tokens p i = Word (codes "ask") ∷ Word (codes "test") ∷ Word (name_at i) ∷ Number (numerator_at p i) ∷ Sign slash ∷ Number p ∷ []
 
-pub ring_read : (p : ℕ) → p ≤ 13 → LineEnd (ring_line p) (ring_tokens p)
+pub ring_read : (p : ℕ) → p ≤ greatest_prime → LineEnd (ring_line p) (ring_tokens p)
 unfolding line_end blank sign piece
 ring_read p low =
     subst (λ bs. LineEnd bs (ring_tokens p)) (sym (three (codes "ring ") (decimal p) (codes " x, y\n")))
@@ -98,7 +99,7 @@ jumps_read i low =
     (piece (word_piece (codes "ask") ask_word)
     (blank (piece (word_piece (codes "jumps") jumps_word) (blank (piece (word_piece (name_at i) (name_is_word i low)) (blank (piece one_piece line_end refl)) refl)) refl)) refl)
 
-pub test_read : (p i : ℕ) → 0 < p → p ≤ 13 → i < 2 ^ 32 → LineEnd (test_line p i) (test_tokens p i)
+pub test_read : (p i : ℕ) → 0 < p → p ≤ greatest_prime → i < 2 ^ 32 → LineEnd (test_line p i) (test_tokens p i)
 unfolding line_end blank sign piece
 test_read p i positive small low =
     let below = mod_below i p positive in
@@ -108,7 +109,7 @@ test_read p i positive small low =
     (blank (piece (word_piece (codes "test") test_word) (blank (piece (word_piece (name_at i) (name_is_word i low)) (blank t) refl)) refl)) refl)
 
 -- The tokens of the three lines of a polynomial, in front of others.
-pub lines_read : (p i : ℕ) → 0 < p → p ≤ 13 → i < 2 ^ 32 → (rest : List ℕ)
+pub lines_read : (p i : ℕ) → 0 < p → p ≤ greatest_prime → i < 2 ^ 32 → (rest : List ℕ)
     → map tokens_of (lines (lines_at p i ++ rest)) ≡ poly_tokens i ∷ jumps_tokens i ∷ test_tokens p i ∷ map tokens_of (lines rest)
 unfolding lines_at
 lines_read p i positive small low rest =

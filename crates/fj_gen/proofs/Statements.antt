@@ -7,7 +7,7 @@ use Rattle.std.proofs.lemmas.Option.{slice_get-get_or}
 use Rattle.std.proofs.lemmas.List.Elements.{All-nil, All-cons, All-push, All-weaker}
 use Rattle.std.proofs.lemmas.Nat.{mod_below}
 use Rattle.std.proofs.Math.Nat.{pow-le-pow_left}
-use Rattle.fj_coeff.specs.Field.{primes}
+use Rattle.fj_coeff.specs.Field.{greatest_prime, primes}
 use Rattle.fj_coeff.specs.PrimeFieldLaws.{prime_bounds}
 use Rattle.fj_theory.specs.Fraction.{Fraction}
 use Rattle.fj_theory.specs.MonomialOrder.{grevlex_key}
@@ -62,7 +62,7 @@ module _ {p : ℕ} (prime : Contains primes p) where
   at vs terms qs = record { prime = p; variables = xy; values = vs; terms = terms; order = orders.Grevlex; budget = 100000; asked = qs }
 
   level : IsLevel p 1
-  level = let power : p ^ 1 ≤ 13 ^ 1 = pow-le-pow_left (prime_bounds p prime).1 1 in record { above_zero = omega arith; low = omega (arith, power) }
+  level = let power : p ^ 1 ≤ greatest_prime ^ 1 = pow-le-pow_left (prime_bounds p prime).1 1 in record { above_zero = omega arith; low = omega (arith, power) }
 
   -- The rest of a generated session.
   pub record Rest (k m : ℕ) (vs : List (List ℕ × Value)) (terms : ℕ) (qs : List Asked) : Type 0 where

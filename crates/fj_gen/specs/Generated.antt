@@ -1,11 +1,14 @@
 -- The generated sessions: for each n from 1 to 1,000 a session of n polynomials x^A + y^B, each with two questions.
-use Rattle.std.specs.Prelude.{ℕ, ◌+◌, ◌%◌, ◌/◌, List, ◌++◌, slice_index, codes, decimal}
+use Rattle.std.specs.Prelude.{ℕ, ◌+◌, ◌%◌, ◌/◌, List, ◌++◌, [], ◌∷◌, slice_index, codes, decimal}
 use Rattle.std.specs.List.{flat_map, range_with_len}
-use Rattle.fj_coeff.specs.Field.{primes}
 
--- The prime of the n-th session: the primes of the table take turns, counted from 0.
+-- The primes of the sessions.
+unfoldable pub session_primes : List ℕ
+session_primes = 2 ∷ 3 ∷ 5 ∷ 7 ∷ 11 ∷ 13 ∷ []
+
+-- The prime of the n-th session: these primes take turns, counted from 0.
 abbrev pub prime_for : ℕ → ℕ
-prime_for n = slice_index primes (n % 6)
+prime_for n = slice_index session_primes (n % 6)
 
 -- The exponents A of x and B of y in the i-th polynomial.
 abbrev pub x_exponent : ℕ → ℕ

@@ -3,12 +3,14 @@ ghost use Rattle.std.specs.Prelude.{◌≡◌, ◌≤◌, ◌<◌, ◌++◌, Con
 ghost use Rattle.fj_coeff.specs.Field.{primes};
 ghost use Rattle.fj_gen.specs.Generated.{generated, jumps_line, lines_at, name_at, poly_line, prime_for, ring_line, test_line};
 
-use fj_coeff::PRIMES;
 use itoa::Buffer;
 use std::alloc::{AllocError, Global};
 
-/// The session of the number n: the ring of x and y over one of the primes, which take turns, and then for each i from 1
-/// to n the polynomial `fi = x^A+y^B` and two questions on it, `jumps` of level 1 and `test` at M/p. Here
+/// The primes of the sessions.
+const SESSION_PRIMES: [u64; 6] = [2, 3, 5, 7, 11, 13];
+
+/// The session of the number n: the ring of x and y over one of the primes up to 13, which take turns, and then for each i
+/// from 1 to n the polynomial `fi = x^A+y^B` and two questions on it, `jumps` of level 1 and `test` at M/p. Here
 /// A = 2 + (i mod 4), B = 2 + ((i div 4) mod 4) and M = 1 + (i mod p).
 ///
 /// Condition: n is at least 1 and at most 1,000.
@@ -31,7 +33,7 @@ fn prime_for(n: u32) -> u64
     ensures value { result ≡ prime_for n }
     ensures in_table { Contains primes result }
 {
-    PRIMES[(n % 6) as usize]
+    SESSION_PRIMES[(n % 6) as usize]
 }
 
 /// Appends the line of the ring.

@@ -212,7 +212,7 @@ module _ (s0 : State) (S : Session) (known : Contains primes S.prime) where
 
   pub question_reading : (t : State) → SoFar s0 (behind_lines (Some S)) (Word (codes "ask") ∷ []) t
       → Reading s0 (behind_lines (Some S)) (λ e. e) (λ q us. IsQuestion S us q) (Word (codes "ask") ∷ []) (question.question_at S t)
-  unfolding question.question_at
+  unfolding question.question_at question.question_by
   question_reading t H =
       then_reading s0 (behind_lines (Some S)) (λ e. e) _ (word_reading s0 (behind_lines (Some S)) (Word (codes "ask") ∷ []) t H.reached (ask_goes s0 S known [] (λ n. (Word (codes "basis") ∷ Word (fresh (n + 2)) ∷ [], _, grammar.basis (some_ideal S n)))))
       (λ w us u e Hu. by w us e u Hu (question.ask_of w) refl)

@@ -31,6 +31,7 @@ use Rattle.fj_grammar.proofs.NamesOf.{found_among}
 use Rattle.fj_script.specs.declared.fault.FaultKind.{FaultKind}
 use Rattle.std.proofs.lemmas.List.Elements.{Contains-append_left}
 use Rattle.fj_script.specs.Ring as rings
+use Rattle.fj_script.specs.Names.{declared_names}
 use Rattle.fj_script.specs.Script.{from_line, lines}
 use Rattle.fj_script.specs.Session.{Session, new_session}
 use Rattle.fj_script.specs.Statement as statements
@@ -41,10 +42,12 @@ use Rattle.fj_grammar.proofs.TwoReadings.{line_from}
 use Rattle.fj_grammar.proofs.Beginnings.{Reading, SoFar, StandsAt, Stuck, Took, Words, WrongWord, behind, caused, init_is, late, number_first, read, reading_if, sound, stuck, then_reading, toks, word_first, wrong_token}
 use Rattle.fj_grammar.proofs.BeginningLines.{MayFollow, MayStand, ask_goes, behind_lines, number_reading, within_reading, word_reading}
 use Rattle.fj_grammar.proofs.BeginningQuestions.{question_reading}
+use Rattle.fj_grammar.proofs.BeginningResults.{named_result_stopped}
 use Rattle.fj_grammar.proofs.BeginningStatements.{IsStopped, bare, bare_alike, ideal_stopped, listed_more, listed_reading, point_stopped, poly_stopped, reading_with, stop_end, stop_if, stop_then}
 use Rattle.fj_grammar.proofs.Continuations.{other_word, other_word-is, wide, wide_ideal, wide_nonconstant, wide_point, wide_polynomial}
+use Rattle.fj_grammar.proofs.GrammarComplete.{IsSane, sane_begin, sane_next}
 use Rattle.fj_grammar.proofs.GrammarPieces.{nothing_found}
-use Rattle.fj_grammar.proofs.GrammarSound.{Become, lines_take, same_prime, keyword_is, keyword_word, order_named, prime_takes}
+use Rattle.fj_grammar.proofs.GrammarSound.{Become, lines_take, keyword_is, keyword_word, order_named, prime_takes}
 use Rattle.fj_script.proofs.NewNames.{pairs_more, unlike}
 
 -- ---- the ring
@@ -189,7 +192,7 @@ wide_question S n (grammar.fpure_at h k) = grammar.fpure_at (wide_ideal S n _ _ 
 wide_question S n (grammar.split h) = grammar.split (wide_ideal S n _ _ h)
 wide_question S n (grammar.compatible h k l) = grammar.compatible h (wide_polynomial S n _ _ k) (wide_ideal S n _ _ l)
 
-module _ (s0 : State) (S : Session) (known : Contains primes S.prime) (some_variable : 1 ≤ length S.variables) where
+module _ (s0 : State) (S : Session) (known : Contains primes S.prime) (some_variable : 1 ≤ length S.variables) (distinct : AllPairs (λ v w. v ≢ w) (declared_names S.values)) where
   order_stopped : (t : State) → SoFar s0 (behind_lines (Some S)) (Word (codes "order") ∷ []) t → IsStopped s0 (behind_lines (Some S)) (statements.order S t)
   unfolding statements.order
   order_stopped t H =
@@ -224,6 +227,7 @@ module _ (s0 : State) (S : Session) (known : Contains primes S.prime) (some_vari
   later_stopped keywords.Poly t H = poly_stopped s0 S known some_variable t H
   later_stopped keywords.Ideal t H = ideal_stopped s0 S known some_variable t H
   later_stopped keywords.Point t H = point_stopped s0 S known some_variable t H
+  later_stopped keywords.Let t H = named_result_stopped s0 S known some_variable distinct t H
   later_stopped keywords.Ask t H = asking_stopped t H
 
 -- ---- lines
@@ -231,7 +235,7 @@ module _ (s0 : State) (S : Session) (known : Contains primes S.prime) (some_vari
 -- What is known of the session before a line.
 abbrev pub IsUsual : Option Session → Type 0
 IsUsual None = Unit {0}
-IsUsual (Some S) = Contains primes S.prime × (1 ≤ length S.variables)
+IsUsual (Some S) = IsSane S × (1 ≤ length S.variables)
 
 nothing_stands : (before : Option Session) → IsUsual before → MayStand before []
 nothing_stands None h = inl (Word (codes "ring") ∷ Number 2 ∷ Word (other_word []) ∷ [], _, grammar.ring (some_prime (record { left = []; start = 0; end = 0 })) (grammar.last grammar.variable) (omega arith) (λ i j d less inside. absurd (omega (arith, less, inside))))
@@ -251,9 +255,10 @@ statement_of_stopped s0 None h (Some keywords.Budget) w e t H = without_ring s0 
 statement_of_stopped s0 None h (Some keywords.Poly) w e t H = without_ring s0 w t H (inr (inr (inl (keyword_is w keywords.Poly e))))
 statement_of_stopped s0 None h (Some keywords.Ideal) w e t H = without_ring s0 w t H (inr (inr (inr (inl (keyword_is w keywords.Ideal e)))))
 statement_of_stopped s0 None h (Some keywords.Point) w e t H = without_ring s0 w t H (inr (inr (inr (inr (inl (keyword_is w keywords.Point e))))))
-statement_of_stopped s0 None h (Some keywords.Ask) w e t H = without_ring s0 w t H (inr (inr (inr (inr (inr (keyword_is w keywords.Ask e))))))
+statement_of_stopped s0 None h (Some keywords.Let) w e t H = without_ring s0 w t H (inr (inr (inr (inr (inr (inl (keyword_is w keywords.Let e)))))))
+statement_of_stopped s0 None h (Some keywords.Ask) w e t H = without_ring s0 w t H (inr (inr (inr (inr (inr (inr (keyword_is w keywords.Ask e)))))))
 statement_of_stopped s0 (Some S) h None w e t H = late s0 (behind_lines (Some S)) H tt
-statement_of_stopped s0 (Some S) h (Some k) w e t H = later_stopped s0 S h.0 h.1 k t (subst (λ v. SoFar s0 (behind_lines (Some S)) (Word v ∷ []) t) (keyword_is w k e) H)
+statement_of_stopped s0 (Some S) h (Some k) w e t H = later_stopped s0 S h.0.prime h.1 h.0.distinct k t (subst (λ v. SoFar s0 (behind_lines (Some S)) (Word v ∷ []) t) (keyword_is w k e) H)
 
 statement_stopped : (s0 : State) (before : Option Session) → IsUsual before → (p : Placed) (rest : List Placed) → s0.left ≡ p ∷ rest → IsStopped s0 (behind_lines before) (statements.statement before p.token (after p rest))
 unfolding statements.statement word_of
@@ -311,19 +316,20 @@ statement_usual (grammar.budget l k) h = h
 statement_usual (grammar.poly n e f) h = h
 statement_usual (grammar.ideal n e f g) h = h
 statement_usual (grammar.point n e f) h = h
+statement_usual (grammar.named_result n q a) h = h
 statement_usual (grammar.asked f q) h = h
 
 statements_usual : {S T : Session} {ls : List (List Token)} → AreStatements S ls T → IsUsual (Some S) → IsUsual (Some T)
 statements_usual grammar.none h = h
 statements_usual (grammar.nothing d) h = statements_usual d h
-statements_usual (grammar.statement k d) h = statements_usual d (same_prime k h.0, statement_usual k h.1)
+statements_usual (grammar.statement k d) h = statements_usual d (sane_next _ h.0 k, statement_usual k h.1)
 
 some_item : {A : Type 0} {Is : List Token → A → Type 0} {ts : List Token} {xs : List A} → AreListed Is ts xs → 1 ≤ length xs
 some_item (grammar.last h) = omega arith
 some_item (grammar.more h l) = omega arith
 
 ring_usual : {T : Session} {ts : List Token} → IsRing ts T → IsUsual (Some T)
-ring_usual (grammar.ring known l few apart) = (known, some_item l)
+ring_usual (grammar.ring known l few apart) = (sane_begin (grammar.ring known l few apart), some_item l)
 
 session_usual : {T : Session} {ls : List (List Token)} → IsSession ls T → IsUsual (Some T)
 session_usual (grammar.blank d) = session_usual d

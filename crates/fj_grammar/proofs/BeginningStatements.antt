@@ -112,17 +112,17 @@ module _ (s0 : State) (V : Sayings) where
 abbrev pub bare : Session → Session
 bare S = record S { terms = 0 }
 
-abbrev unnamed : Session → Session
+abbrev pub unnamed : Session → Session
 unnamed S = record S { values = []; terms = 0 }
 
 pub bare_alike : (S : Session) (ts : List Token) → IsAlikeFor ts S (bare S)
 bare_alike S ts = record { prime = refl; variables = refl; names = λ w v there. (λ h. h, λ h. h) }
 
-unnamed_alike : (S : Session) → IsAlikeFor [] S (unnamed S)
+pub unnamed_alike : (S : Session) → IsAlikeFor [] S (unnamed S)
 unnamed_alike S = record { prime = refl; variables = refl; names = λ w v there. absurd (let short : there.0 < 0 = there.1 in omega arith) }
 
 -- A beginning of a beginning.
-shorter : (S : Session) (tok : Token) (ts us : List Token) → CanGoOn (Some S) (tok ∷ ts ++ us) → CanGoOn (Some S) (tok ∷ ts)
+pub shorter : (S : Session) (tok : Token) (ts us : List Token) → CanGoOn (Some S) (tok ∷ ts ++ us) → CanGoOn (Some S) (tok ∷ ts)
 shorter S tok ts us (other, alike, rest, T, h) = (
   other,
   record { prime = alike.prime; variables = alike.variables; names = λ w v there. alike.names w v (Contains-append_left ts us (Word w) there) },
@@ -194,14 +194,14 @@ module _ (s0 : State) (S : Session) (known : Contains primes S.prime) (some_vari
           (λ _. read us e Hu)))
 
   -- A word of a declaration goes on with a name.
-  abbrev Begins : List ℕ → Type 0
+  abbrev pub Begins : List ℕ → Type 0
   Begins kw = (w : List ℕ) × CanGoOnWith (Some S) (Word kw ∷ []) (Word w)
 
   starts : (kw : List ℕ) → Begins kw → MayStand (Some S) (Word kw ∷ [])
   starts kw (w, (other, alike, more, T, h)) = inl (other, alike, Word w ∷ more, T, h)
 
   -- A word of a declaration, a new name and `=`.
-  name_equals_reading : (kw : List ℕ) → rank.Declares kw → (t : State) → SoFar s0 (behind_lines (Some S)) (Word kw ∷ []) t → Begins kw → ((name : List ℕ) → IsNew S name → CanGoOn (Some S) (Word kw ∷ Word name ∷ Sign equals ∷ []))
+  pub name_equals_reading : (kw : List ℕ) → rank.Declares kw → (t : State) → SoFar s0 (behind_lines (Some S)) (Word kw ∷ []) t → Begins kw → ((name : List ℕ) → IsNew S name → CanGoOn (Some S) (Word kw ∷ Word name ∷ Sign equals ∷ []))
       → Reading s0 (behind_lines (Some S)) (λ e. e) (λ name us. (us ≡ Word name ∷ Sign equals ∷ []) × IsNew S name) (Word kw ∷ []) (declaration.name_equals S t)
   unfolding declaration.name_equals
   name_equals_reading kw declares t H v goes =
@@ -238,12 +238,12 @@ module _ (s0 : State) (S : Session) (known : Contains primes S.prime) (some_vari
   -- `ideal`
 
   abbrev Generators : List Terms → List Token → Type 0
-  Generators fs us = AreListed (HasTerms (bare S)) us fs × (length fs ≤ 64) × (terms_in fs ≤ 1000 * length fs)
+  Generators fs us = AreListed (HasTerms (bare S)) us fs × (length fs ≤ 256) × (terms_in fs ≤ 1000 * length fs)
 
   terms_more : (fs : List Terms) (f : Terms) → terms_in (fs ++ f ∷ []) ≡ terms_in fs + length f
   terms_more fs f = ap sum (map-append length fs (f ∷ [])) ∙ sum_by-append (λ n. n) (map length fs) (length f ∷ []) ∙ ap (λ n. terms_in fs + n) (let one : 0 + length f ≡ length f = omega arith in one)
 
-  generators_more : (fs : List Terms) (us vs : List Token) (f : Terms) → Generators fs us → length fs < 64 → IsRead f vs → Generators (fs ++ f ∷ []) (us ++ Sign comma ∷ vs)
+  generators_more : (fs : List Terms) (us vs : List Token) (f : Terms) → Generators fs us → length fs < 256 → IsRead f vs → Generators (fs ++ f ∷ []) (us ++ Sign comma ∷ vs)
   generators_more fs us vs f l few h = (
     listed_more l.0 h.0,
     omega (arith, few, length-append fs (f ∷ [])),
@@ -275,7 +275,7 @@ module _ (s0 : State) (S : Session) (known : Contains primes S.prime) (some_vari
   regroup us vs tok = append_assoc us (tok ∷ []) vs
 
   module _ (name : List ℕ) (new : IsNew S name) where
-    too_many_more : (fs : List Terms) (us : List Token) → Generators fs us → length fs < 64 → (vs : List Token) (f : Terms) → IsRead f vs → 1000000 < S.terms + terms_in fs + length f
+    too_many_more : (fs : List Terms) (us : List Token) → Generators fs us → length fs < 256 → (vs : List Token) (f : Terms) → IsRead f vs → 1000000 < S.terms + terms_in fs + length f
         → AreTooMany S (Word (codes "ideal") ∷ Word name ∷ Sign equals ∷ Sign opening ∷ ((us ++ Sign comma ∷ []) ++ vs))
     too_many_more fs us l room vs f h many =
         let all = generators_more fs us vs f l room h in
@@ -286,8 +286,8 @@ module _ (s0 : State) (S : Session) (known : Contains primes S.prime) (some_vari
         → Reading s0 (behind_lines (Some S)) (λ e. e) (λ f ws. Generators (fs ++ f ∷ []) ws) (Word (codes "ideal") ∷ Word name ∷ Sign equals ∷ Sign opening ∷ []) (declaration.generator S fs t)
     unfolding declaration.generator
     generator_more fs us t l H =
-        reading_if s0 (behind_lines (Some S)) (λ e. e) (leb 64 (length fs)) _ _ (λ e. let full = leb-true 64 (length fs) e in stuck (late s0 (behind_lines (Some S)) H (caused s0 (behind_lines (Some S)) kinds.Many H (rank.generators new (all_of_bare l.0) (omega (arith, full, l.1))))))
-        (λ few. let room = leb-false 64 (length fs) few in
+        reading_if s0 (behind_lines (Some S)) (λ e. e) (leb 256 (length fs)) _ _ (λ e. let full = leb-true 256 (length fs) e in stuck (late s0 (behind_lines (Some S)) H (caused s0 (behind_lines (Some S)) kinds.Many H (rank.generators new (all_of_bare l.0) (omega (arith, full, l.1))))))
+        (λ few. let room = leb-false 256 (length fs) few in
         behind s0 (behind_lines (Some S)) (λ e. e) {Q = IsRead} (Word (codes "ideal") ∷ Word name ∷ Sign equals ∷ Sign opening ∷ []) (us ++ Sign comma ∷ []) _
         (counted_reading (S.terms + terms_in fs) (Word (codes "ideal") ∷ Word name ∷ Sign equals ∷ Sign opening ∷ (us ++ Sign comma ∷ [])) t H
         (λ vs g. inl (subst (λ ws. CanGoOn (Some S) (Word (codes "ideal") ∷ Word name ∷ Sign equals ∷ Sign opening ∷ ws)) (sym (regroup us vs (Sign comma)))
@@ -430,7 +430,7 @@ module _ (s0 : State) (S : Session) (known : Contains primes S.prime) (some_vari
   unfolding declaration.point
   point_stopped t H =
       stop_then s0 (behind_lines (Some S)) _
-      (name_equals_reading (codes "point") (inr (inr refl)) t H point_begins (λ name new. shorter S (Word (codes "point")) (Word name ∷ Sign equals ∷ []) (Sign opening ∷ []) (point_opens name new)))
+      (name_equals_reading (codes "point") (inr (inr (inl refl))) t H point_begins (λ name new. shorter S (Word (codes "point")) (Word name ∷ Sign equals ∷ []) (Sign opening ∷ []) (point_opens name new)))
       (λ name us u h Hu. stop_then s0 (behind_lines (Some S)) _ (point_list name h.1 u (subst (λ ws. SoFar s0 (behind_lines (Some S)) (Word (codes "point") ∷ ws) u) h.0 Hu))
       (λ cs ws w l Hw. let Hl = subst (λ vs. SoFar s0 (behind_lines (Some S)) ((Word (codes "point") ∷ Word name ∷ Sign equals ∷ []) ++ vs) w) l.1 Hw in
       stop_if s0 (behind_lines (Some S)) (ltb (length cs) (length S.variables)) _ _ (λ few. late s0 (behind_lines (Some S)) Hl (caused s0 (behind_lines (Some S)) kinds.Arity Hl (rank.too_few h.1 l.2.0 (ltb-true (length cs) (length S.variables) few))))

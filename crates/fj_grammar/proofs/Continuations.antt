@@ -11,6 +11,7 @@ use Rattle.fj_coeff.specs.PrimeFieldLaws.{prime_bounds}
 use Rattle.fj_theory.specs.Fraction.{Fraction}
 use Rattle.fj_text.specs.Token.{Token, Word, Number, Sign, BadByte}
 use Rattle.fj_grammar.specs.Beginning.{IsAlikeFor}
+use Rattle.fj_grammar.specs.Grammar as grammar
 use Rattle.fj_grammar.specs.Grammar.{IsExponent, IsLevel, NamesIdeal, NamesNonconstant, NamesPoint, NamesPolynomial}
 use Rattle.fj_script.specs.Session.{Session, Value, Poly, Ideal, Point}
 
@@ -42,6 +43,10 @@ word_short (Number n ∷ ts) w (suc k) inside e = word_short ts w k (omega arith
 word_short (Sign b ∷ ts) w (suc k) inside e = word_short ts w k (omega arith) e
 word_short (BadByte ∷ ts) w (suc k) inside e = word_short ts w k (omega arith) e
 
+pub first_short : (w : List ℕ) (ts : List Token) → length w ≤ longest (Word w ∷ ts)
+unfolding longest
+first_short w ts = omega arith
+
 -- A polynomial, an ideal and a point.
 abbrev pub extra : ℕ → List (List ℕ × Value)
 extra n = (fresh (n + 1), Poly ((1 ∷ [], 1) ∷ [])) ∷ (fresh (n + 2), Ideal []) ∷ (fresh (n + 3), Point []) ∷ []
@@ -49,7 +54,7 @@ extra n = (fresh (n + 1), Poly ((1 ∷ [], 1) ∷ [])) ∷ (fresh (n + 2), Ideal
 abbrev pub wide : Session → ℕ → Session
 wide S n = record S { values = S.values ++ extra n; asked = [] }
 
-not_extra : (n : ℕ) (w : List ℕ) (v : Value) → length w ≤ n → Contains (extra n) (w, v) → ⊥
+pub not_extra : (n : ℕ) (w : List ℕ) (v : Value) → length w ≤ n → Contains (extra n) (w, v) → ⊥
 not_extra n w v short found = by found.0 found.1 found.2
   where
     long : (m : ℕ) (u : Value) → n < m → ◌≡◌ {A = List ℕ × Value} (fresh m, u) (w, v) → ⊥
@@ -90,7 +95,7 @@ module _ (S : Session) (n : ℕ) where
   wide_nonconstant w i h = record { terms = h.terms; is = kept S.values (extra n) i (w, Poly h.terms) h.is; nonconstant = h.nonconstant }
 
   pub wide_ideal : (w : List ℕ) (i : ℕ) → NamesIdeal S w i → NamesIdeal (wide S n) w i
-  wide_ideal w i h = record { generators = h.generators; is = kept S.values (extra n) i (w, Ideal h.generators) h.is }
+  wide_ideal w i h = record { value = h.value; is = kept S.values (extra n) i (w, h.value) h.is; ideal = h.ideal }
 
   pub wide_point : (w : List ℕ) (i : ℕ) → NamesPoint S w i → NamesPoint (wide S n) w i
   wide_point w i h = record { coordinates = h.coordinates; is = kept S.values (extra n) i (w, Point h.coordinates) h.is }
@@ -102,7 +107,7 @@ module _ (S : Session) (n : ℕ) where
   some_polynomial = record { terms = (1 ∷ [], 1) ∷ []; is = at_behind S.values (extra n) 0 }
 
   pub some_ideal : NamesIdeal (wide S n) (fresh (n + 2)) (length S.values + 1)
-  some_ideal = record { generators = []; is = at_behind S.values (extra n) 1 }
+  some_ideal = record { value = Ideal []; is = at_behind S.values (extra n) 1; ideal = grammar.generated }
 
   pub some_point : NamesPoint (wide S n) (fresh (n + 3)) (length S.values + 2)
   some_point = record { coordinates = []; is = at_behind S.values (extra n) 2 }

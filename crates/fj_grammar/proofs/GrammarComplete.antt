@@ -37,7 +37,7 @@ use Rattle.fj_script.specs.declared.value.Kind.{Kind}
 use Rattle.fj_script.specs.declared.value.Kind.TheVariants as kinds
 use Rattle.fj_script.specs.Declaration as declaration
 use Rattle.fj_grammar.specs.Grammar as grammar
-use Rattle.fj_grammar.specs.Grammar.{AreListed, AreSession, AreStatements, HasTerms, IsCoordinate, IsExponent, IsLevel, IsNew, IsQuestion, IsRatio, IsRing, IsSession, IsStatement, IsVariable, NamesIdeal, NamesNonconstant, NamesPoint, NamesPolynomial, tokens_of}
+use Rattle.fj_grammar.specs.Grammar.{AreListed, AreSession, AreStatements, HasTerms, IsCoordinate, IsExponent, IsIdeal, IsLevel, IsNew, IsQuestion, IsRatio, IsRing, IsSession, IsStatement, IsVariable, NamesIdeal, NamesNonconstant, NamesPoint, NamesPolynomial, tokens_of}
 use Rattle.fj_script.specs.Items.{at_end, comma, equals, listed, narrow, slash, word_of}
 use Rattle.fj_script.specs.LineFault.{◌>>=◌, fault_at}
 use Rattle.fj_script.specs.Names as names
@@ -45,7 +45,7 @@ use Rattle.fj_script.specs.Numbers as numbers
 use Rattle.fj_script.specs.Question as question
 use Rattle.fj_script.specs.Ring as rings
 use Rattle.fj_script.specs.Script as script
-use Rattle.fj_script.specs.Session.{Session, Terms, Value, Poly, Ideal, Point, ask, declare, is_nonconstant, kind, new_session, terms_in}
+use Rattle.fj_script.specs.Session.{Session, Terms, Value, Poly, Ideal, Point, Let, ask, declare, is_nonconstant, kind, new_session, terms_in}
 use Rattle.fj_script.specs.Statement as statements
 use Rattle.fj_grammar.proofs.GrammarSound.{ask_word, keyword_word, line_tokens}
 use Rattle.fj_grammar.proofs.GrammarTokens.{IsRead, behind_closing, done, enclosed_read, end_is, listed_read, narrow_read, next_read, no_next, number_read, otherwise_read, sign_is, then_is, then_read, word_read}
@@ -126,9 +126,13 @@ new_name_read S s name rest new e =
     (otherwise_read (leb 4096 (length S.values)) _ _ (lt-leb 4096 (length S.values) new.few) (done k)))
 
 -- What is known of each session of the grammar.
-record IsSane (S : Session) : Type 0 where
-  prime : Contains primes S.prime
-  distinct : AllPairs (λ v w. v ≢ w) (names.declared_names S.values)
+pub record IsSane (S : Session) : Type 0 where
+  pub prime : Contains primes S.prime
+  pub distinct : AllPairs (λ v w. v ≢ w) (names.declared_names S.values)
+
+ideal_kind : {v : Value} → IsIdeal v → kind v ≡ kinds.Ideal
+ideal_kind grammar.generated = refl
+ideal_kind grammar.answered = refl
 
 module _ (S : Session) (H : IsSane S) where
   found_at : (w : List ℕ) (i : ℕ) (v : Value) → slice_get S.values i ≡ Some (w, v) → names.declared_as S w ≡ Some (i, kind v)
@@ -165,7 +169,7 @@ module _ (S : Session) (H : IsSane S) where
 
   ideal_read : (w : List ℕ) (i : ℕ) (s : State) (rest : List Token) → NamesIdeal S w i → tokens_left s ≡ Word w ∷ rest → IsRead (names.ideal S s) i rest
   unfolding names.ideal
-  ideal_read w i s rest h e = then_read _ (declared_read w i (Ideal h.generators) s rest h.is e) (λ u k. of_kind_read names.as_ideal i kinds.Ideal u rest refl k)
+  ideal_read w i s rest h e = then_read _ (declared_read w i h.value s rest h.is e) (λ u k. of_kind_read names.as_ideal i (kind h.value) u rest (ap names.as_ideal (ideal_kind h.ideal)) k)
 
   point_by_read : (w : List ℕ) (i : ℕ) (u : State) (rest : List Token) → NamesPoint S w i → tokens_left u ≡ rest → IsRead (names.point_by S (Word w) u) i rest
   unfolding names.point_by
@@ -179,7 +183,13 @@ module _ (S : Session) (H : IsSane S) where
 
   target_ideal_read : (w : List ℕ) (j : ℕ) (s : State) (rest : List Token) → NamesIdeal S w j → tokens_left s ≡ Word w ∷ rest → IsRead (question.target_at S s) (question.Ideal j) rest
   unfolding question.target_at
-  target_ideal_read w j s rest h e = then_read _ (declared_read w j (Ideal h.generators) s rest h.is e) (λ u k. done k)
+  target_ideal_read w j s rest h e = then_read _ (declared_read w j h.value s rest h.is e) (λ u k. by (kind h.value) (ideal_kind h.ideal) u k)
+    where
+      by : (k : Kind) → k ≡ kinds.Ideal → (u : State) → tokens_left u ≡ rest → IsRead (question.target_of ((j, k), u)) (question.Ideal j) rest
+      by kinds.Ideal is u k = done k
+      by kinds.Point is u k = absurd cc
+      by kinds.Nonconstant is u k = absurd cc
+      by kinds.Constant is u k = absurd cc
 
   target_point_read : (w : List ℕ) (j : ℕ) (s : State) (rest : List Token) → NamesPoint S w j → tokens_left s ≡ Word w ∷ rest → IsRead (question.target_at S s) (question.Point j) rest
   unfolding question.target_at
@@ -263,11 +273,48 @@ module _ (S : Session) (H : IsSane S) where
   ask_for asks.Compatible = refl
 
   question_read : (s : State) (ts : List Token) (q : Question) → IsQuestion S ts q → tokens_left s ≡ ts → IsRead (question.question_at S s) q []
-  unfolding question.question_at
+  unfolding question.question_at question.question_by
   question_read s ts q h e =
       let b = question_begins h in
       then_read _ (word_read s (ask_word b.0) b.1 (e ∙ b.2))
       (λ t k. let r = b.3 t k in record { state = r.state; is = ap (λ o. option_map_or (λ a. question.arguments a S t) o (Err (fault_at faults.Syntax t))) (ask_for b.0) ∙ r.is; left = r.left })
+
+  -- a question that has an ideal as its answer
+  ideal_ask_for : (a : Ask) → question.asks_ideal a ≡ true → question.ideal_ask_of (ask_word a) ≡ Some a
+  unfolding question.ideal_ask_of
+  ideal_ask_for a is = ap (option_and_then (λ b. cond (question.asks_ideal b) (Some b) None)) (ask_for a) ∙ ap (λ c. cond c (Some a) None) is
+
+  ideal_question_begins : {ts : List Token} {q : Question} → IsQuestion S ts q → question.answers_ideal q ≡ true → (a : Ask) × (us : List Token) × (ts ≡ Word (ask_word a) ∷ us) × IsAsked a us q × (question.asks_ideal a ≡ true)
+  unfolding ask_word
+  ideal_question_begins (grammar.basis {j} {J} h) is = (asks.OneIdeal ones.Basis, _, refl, ideal_last ones.Basis J j h, refl)
+  ideal_question_begins (grammar.split {j} {J} h) is = (asks.OneIdeal ones.Split, _, refl, ideal_last ones.Split J j h, refl)
+  ideal_question_begins (grammar.sum {j} {k} {J} {K} g h) is = (asks.TwoIdeals twos.Sum, _, refl, two_ideals_last twos.Sum J K j k g h, refl)
+  ideal_question_begins (grammar.product {j} {k} {J} {K} g h) is = (asks.TwoIdeals twos.Product, _, refl, two_ideals_last twos.Product J K j k g h, refl)
+  ideal_question_begins (grammar.meet {j} {k} {J} {K} g h) is = (asks.TwoIdeals twos.Meet, _, refl, two_ideals_last twos.Meet J K j k g h, refl)
+  ideal_question_begins (grammar.colon {j} {k} {J} {K} g h) is = (asks.TwoIdeals twos.Colon, _, refl, two_ideals_last twos.Colon J K j k g h, refl)
+  ideal_question_begins (grammar.power {e} {j} {J} small h) is = (asks.Frobenius frobenius.Power, _, refl, frobenius_last frobenius.Power J e j small h, refl)
+  ideal_question_begins (grammar.root {e} {j} {J} small h) is = (asks.Frobenius frobenius.Root, _, refl, frobenius_last frobenius.Root J e j small h, refl)
+  ideal_question_begins (grammar.test {f} {F} {ts} {t} h r) is = (asks.TestIdeal tests.Test, _, refl, test_last tests.Test F ts f t h r refl, refl)
+  ideal_question_begins (grammar.left {f} {F} {ts} {t} h r above) is = (asks.TestIdeal tests.Left, _, refl, test_last tests.Left F ts f t h r (above_zero t.numerator above), refl)
+  ideal_question_begins (grammar.parts small h) is = absurd cc
+  ideal_question_begins (grammar.member g h) is = absurd cc
+  ideal_question_begins (grammar.same g h) is = absurd cc
+  ideal_question_begins (grammar.isjump h r above) is = absurd cc
+  ideal_question_begins (grammar.regular h r) is = absurd cc
+  ideal_question_begins (grammar.jumps h l) is = absurd cc
+  ideal_question_begins (grammar.nu small g h) is = absurd cc
+  ideal_question_begins (grammar.threshold g h l) is = absurd cc
+  ideal_question_begins (grammar.threshold_at g h l) is = absurd cc
+  ideal_question_begins (grammar.fpure h) is = absurd cc
+  ideal_question_begins (grammar.fpure_at g h) is = absurd cc
+  ideal_question_begins (grammar.compatible small g h) is = absurd cc
+
+  ideal_question_read : (s : State) (ts : List Token) (q : Question) → IsQuestion S ts q → question.answers_ideal q ≡ true → tokens_left s ≡ ts → IsRead (question.ideal_question_at S s) q []
+  unfolding question.ideal_question_at question.question_by
+  ideal_question_read s ts q h answers e =
+      let b = ideal_question_begins h answers in
+      then_read _ (word_read s (ask_word b.0) b.1 (e ∙ b.2))
+      (λ t k. let r = b.3 t k in record { state = r.state; is = ap (λ o. option_map_or (λ a. question.arguments a S t) o (Err (fault_at faults.Syntax t))) (ideal_ask_for b.0 b.4) ∙ r.is; left = r.left })
 
   -- ---- declarations
 
@@ -297,18 +344,18 @@ module _ (S : Session) (H : IsSane S) where
   terms_among : (fs : List Terms) (f : Terms) (gs : List Terms) → terms_in (fs ++ f ∷ gs) ≡ terms_in fs + (length f + terms_in gs)
   terms_among fs f gs = ap sum (map-append length fs (f ∷ gs)) ∙ sum_by-append (λ n. n) (map length fs) (length f ∷ map length gs) ∙ ap (λ n. terms_in fs + n) (sum_by-cons (λ n. n) (length f) (map length gs))
 
-  generator_read : (fs : List Terms) → length fs ≤ 64 → S.terms + terms_in fs ≤ 1000000 → (ys : List Terms) (x : Terms) (zs : List Terms) → fs ≡ ys ++ x ∷ zs
+  generator_read : (fs : List Terms) → length fs ≤ 256 → S.terms + terms_in fs ≤ 1000000 → (ys : List Terms) (x : Terms) (zs : List Terms) → fs ≡ ys ++ x ∷ zs
       → (ts rest : List Token) (s : State) → HasTerms S ts x → AreBehind rest → tokens_left s ≡ ts ++ rest → IsRead (declaration.generator S ys s) x rest
   unfolding declaration.generator
   generator_read fs few small ys x zs all ts rest s h behind e =
       let count : length fs ≡ length ys + length (x ∷ zs) = ap length all ∙ length-append ys (x ∷ zs) in
       let terms : terms_in fs ≡ terms_in ys + (length x + terms_in zs) = ap terms_in all ∙ terms_among ys x zs in
-      otherwise_read (leb 64 (length ys)) _ _ (lt-leb 64 (length ys) (omega (arith, count))) (counted_read (S.terms + terms_in ys) s ts rest x h (omega (arith, terms, small)) behind e)
+      otherwise_read (leb 256 (length ys)) _ _ (lt-leb 256 (length ys) (omega (arith, count))) (counted_read (S.terms + terms_in ys) s ts rest x h (omega (arith, terms, small)) behind e)
 
   closing_no_comma : NotFirst comma (Sign closing ∷ [])
   closing_no_comma e = absurd (omega arith)
 
-  ideal_is : (name : List ℕ) (ts : List Token) (fs : List Terms) → IsNew S name → AreListed (HasTerms S) ts fs → length fs ≤ 64 → S.terms + terms_in fs ≤ 1000000
+  ideal_is : (name : List ℕ) (ts : List Token) (fs : List Terms) → IsNew S name → AreListed (HasTerms S) ts fs → length fs ≤ 256 → S.terms + terms_in fs ≤ 1000000
       → (s : State) → tokens_left s ≡ Word name ∷ Sign equals ∷ Sign opening ∷ ts ++ Sign closing ∷ [] → declaration.ideal S s ≡ Ok (declare S name (Ideal fs) (terms_in fs))
   unfolding declaration.ideal
   ideal_is name ts fs new l few small s e =
@@ -340,6 +387,12 @@ module _ (S : Session) (H : IsSane S) where
       then_is _ (name_equals_read s name (Sign opening ∷ ts ++ Sign closing ∷ []) new e)
       (λ t k. then_is _ (enclosed_read (listed (declaration.coordinate S)) t ts [] cs k (λ u m. listed_read (IsCoordinate S.prime) (declaration.coordinate S) cs (coordinate_read cs each) (Sign closing ∷ []) (behind_closing []) closing_no_comma l u m))
       (λ u m. ap (λ b. cond b (Err (fault_at faults.Arity u)) (at_end (declare S name (Point cs) 0, u))) (le-ltb (length cs) (length S.variables) (omega (arith, each))) ∙ end_is (declare S name (Point cs) 0) u m))
+
+  named_result_is : (name : List ℕ) (ts : List Token) (q : Question) → IsNew S name → IsQuestion S ts q → question.answers_ideal q ≡ true → (s : State) → tokens_left s ≡ Word name ∷ Sign equals ∷ ts
+      → declaration.named_result S s ≡ Ok (declare S name (Let S.budget q) 0)
+  unfolding declaration.named_result
+  named_result_is name ts q new h answers s e =
+      then_is _ (name_equals_read s name ts new e) (λ t k. then_is _ (ideal_question_read t ts q h answers k) (λ u l. end_is (declare S name (Let S.budget q) 0) u l))
 
   -- ---- statements
 
@@ -399,6 +452,8 @@ statement_begins S H (grammar.ideal {name} {ts} {fs} new l few small) =
     record { keyword = keywords.Ideal; behind = Word name ∷ Sign equals ∷ Sign opening ∷ ts ++ Sign closing ∷ []; begins = refl; makes = ideal_is S H name ts fs new l few small }
 statement_begins S H (grammar.point {name} {ts} {cs} new l each) =
     record { keyword = keywords.Point; behind = Word name ∷ Sign equals ∷ Sign opening ∷ ts ++ Sign closing ∷ []; begins = refl; makes = point_is S H name ts cs new l each }
+statement_begins S H (grammar.named_result {name} {ts} {q} new h answers) =
+    record { keyword = keywords.Let; behind = Word name ∷ Sign equals ∷ ts; begins = refl; makes = named_result_is S H name ts q new h answers }
 statement_begins S H (grammar.asked {ts} {q} few h) = record { keyword = keywords.Ask; behind = ts; begins = refl; makes = asking_is S H ts q few h }
 
 ring_begins : {ts : List Token} {T : Session} → IsRing ts T → BeginsLine None ts T
@@ -413,6 +468,7 @@ keyword_for keywords.Budget = refl
 keyword_for keywords.Poly = refl
 keyword_for keywords.Ideal = refl
 keyword_for keywords.Point = refl
+keyword_for keywords.Let = refl
 keyword_for keywords.Ask = refl
 
 line_is : (before : Option Session) (bytes : List ℕ) (T : Session) → BeginsLine before (tokens_of bytes) T → statements.line before bytes ≡ Ok (Some T)
@@ -433,7 +489,7 @@ declared_sane S H name v n new = record {
   distinct = subst (AllPairs (λ v w. v ≢ w)) (sym (map-append (λ v. v.0) S.values ((name, v) ∷ []))) (pairs_more (λ v w. v ≢ w) (names.declared_names S.values) name H.distinct (λ i d inside. undeclared S.values name new.not_declared i d inside));
 }
 
-sane_next : (S : Session) → IsSane S → {ts : List Token} {T : Session} → IsStatement S ts T → IsSane T
+pub sane_next : (S : Session) → IsSane S → {ts : List Token} {T : Session} → IsStatement S ts T → IsSane T
 sane_next S H grammar.lex = record { prime = H.prime; distinct = H.distinct }
 sane_next S H grammar.grlex = record { prime = H.prime; distinct = H.distinct }
 sane_next S H grammar.grevlex = record { prime = H.prime; distinct = H.distinct }
@@ -441,9 +497,10 @@ sane_next S H (grammar.budget some few) = record { prime = H.prime; distinct = H
 sane_next S H (grammar.poly {name} {ts} {f} new h few) = declared_sane S H name (Poly f) (length f) new
 sane_next S H (grammar.ideal {name} {ts} {fs} new l few small) = declared_sane S H name (Ideal fs) (terms_in fs) new
 sane_next S H (grammar.point {name} {ts} {cs} new l each) = declared_sane S H name (Point cs) 0 new
+sane_next S H (grammar.named_result {name} {ts} {q} new h answers) = declared_sane S H name (Let S.budget q) 0 new
 sane_next S H (grammar.asked few h) = record { prime = H.prime; distinct = H.distinct }
 
-sane_begin : {ts : List Token} {T : Session} → IsRing ts T → IsSane T
+pub sane_begin : {ts : List Token} {T : Session} → IsRing ts T → IsSane T
 sane_begin (grammar.ring known l few apart) = record { prime = known; distinct = λ i j d less inside. absurd (omega arith) }
 
 module _ (number : ℕ) (before : Option Session) (l : List ℕ) (ls : List (List ℕ)) where

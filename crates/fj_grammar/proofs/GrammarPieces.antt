@@ -24,7 +24,7 @@ use Rattle.fj_script.specs.Items.{narrow, slash, word, word_of}
 use Rattle.fj_script.specs.LineFault.{Answer, fault_at}
 use Rattle.fj_script.specs.Names as names
 use Rattle.fj_script.specs.Numbers as numbers
-use Rattle.fj_script.specs.Session.{Session, Value, Poly, Ideal, Point, is_nonconstant, kind}
+use Rattle.fj_script.specs.Session.{Session, Value, Poly, Ideal, Point, Let, is_nonconstant, kind}
 use Rattle.fj_script.proofs.AcceptedYields.{Yields, yields_if, yields_option, yields_then}
 use Rattle.fj_grammar.proofs.GrammarTokens.{Takes, narrow_takes, on_next, on_sign, word_of_takes, word_takes}
 use Rattle.fj_script.proofs.NewNames.{unlike}
@@ -205,6 +205,7 @@ module _ (S : Session) where
   as_polynomial w i (Poly f) found e = record { terms = f; is = found }
   as_polynomial w i (Ideal fs) found e = absurd cc
   as_polynomial w i (Point cs) found e = absurd cc
+  as_polynomial w i (Let b q) found e = absurd cc
 
   pub as_nonconstant : (w : List ℕ) (i : ℕ) (v : Value) → slice_get S.values i ≡ Some (w, v) → names.as_nonconstant (kind v) ≡ None → NamesNonconstant S w i
   as_nonconstant w i (Poly f) found e = by (is_nonconstant f) refl e
@@ -214,6 +215,7 @@ module _ (S : Session) where
       by false is e = absurd cc
   as_nonconstant w i (Ideal fs) found e = absurd cc
   as_nonconstant w i (Point cs) found e = absurd cc
+  as_nonconstant w i (Let b q) found e = absurd cc
 
   pub as_ideal : (w : List ℕ) (i : ℕ) (v : Value) → slice_get S.values i ≡ Some (w, v) → names.as_ideal (kind v) ≡ None → NamesIdeal S w i
   as_ideal w i (Poly f) found e = by (is_nonconstant f) e
@@ -221,8 +223,9 @@ module _ (S : Session) where
       by : (b : Bool) → names.as_ideal (cond b kinds.Nonconstant kinds.Constant) ≡ None → NamesIdeal S w i
       by true e = absurd cc
       by false e = absurd cc
-  as_ideal w i (Ideal fs) found e = record { generators = fs; is = found }
+  as_ideal w i (Ideal fs) found e = record { value = Ideal fs; is = found; ideal = grammar.generated }
   as_ideal w i (Point cs) found e = absurd cc
+  as_ideal w i (Let b q) found e = record { value = Let b q; is = found; ideal = grammar.answered }
 
   pub as_point : (w : List ℕ) (i : ℕ) (v : Value) → slice_get S.values i ≡ Some (w, v) → names.as_point (kind v) ≡ None → NamesPoint S w i
   as_point w i (Poly f) found e = by (is_nonconstant f) e
@@ -232,6 +235,7 @@ module _ (S : Session) where
       by false e = absurd cc
   as_point w i (Ideal fs) found e = absurd cc
   as_point w i (Point cs) found e = record { coordinates = cs; is = found }
+  as_point w i (Let b q) found e = absurd cc
 
   pub polynomial_takes : (s : State) → Yields (Named (NamesPolynomial S) s) (names.polynomial S s)
   unfolding names.polynomial

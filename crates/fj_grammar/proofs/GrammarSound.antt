@@ -50,9 +50,10 @@ use Rattle.fj_script.specs.Question as question
 use Rattle.fj_script.specs.Question.{Target}
 use Rattle.fj_script.specs.Ring as rings
 use Rattle.fj_script.specs.Script as script
-use Rattle.fj_script.specs.Session.{Session, Terms, Poly, Ideal, Point, ask, declare, new_session, terms_in}
+use Rattle.fj_script.specs.Session.{Session, Terms, Poly, Ideal, Point, Let, ask, declare, new_session, terms_in}
 use Rattle.fj_script.specs.Statement as statements
-use Rattle.fj_script.proofs.AcceptedYields.{Yields, yielded, yields_if, yields_option, yields_then}
+use Rattle.fj_script.proofs.AcceptedQuestions.{arguments_answer, ideal_ask}
+use Rattle.fj_script.proofs.AcceptedYields.{Yields, yielded, yields_anything, yields_both, yields_if, yields_option, yields_then}
 use Rattle.fj_grammar.proofs.GrammarPieces.{IsDeclared, Named, Numbered, as_ideal, as_point, declared_takes, exponent_takes, ideal_takes, level_takes, new_name_takes, nonconstant_takes, nothing_found, point_by_takes, polynomial_takes, ratio_takes, within_takes}
 use Rattle.fj_grammar.proofs.GrammarTokens.{Takes, end_takes, enclosed_takes, listed_takes, narrow_takes, number_takes, on_next, on_sign, sign_takes, word_of_takes, word_takes}
 use Rattle.fj_grammar.proofs.Meanings.{among_variables, expression_along}
@@ -75,6 +76,7 @@ keyword_word keywords.Budget = codes "budget"
 keyword_word keywords.Poly = codes "poly"
 keyword_word keywords.Ideal = codes "ideal"
 keyword_word keywords.Point = codes "point"
+keyword_word keywords.Let = codes "let"
 keyword_word keywords.Ask = codes "ask"
 
 pub keyword_is : (w : List ℕ) (k : Keyword) → statements.keyword_of w ≡ Some k → w ≡ keyword_word k
@@ -82,7 +84,8 @@ unfolding statements.keyword_of keyword_word
 keyword_is w =
     let Q : Keyword → Type 0 = λ k. w ≡ keyword_word k in
     chosen w (codes "ring") keywords.Ring _ Q (λ e. e) (chosen w (codes "order") keywords.Order _ Q (λ e. e) (chosen w (codes "budget") keywords.Budget _ Q (λ e. e) (chosen w (codes "poly") keywords.Poly _ Q (λ e. e)
-    (chosen w (codes "ideal") keywords.Ideal _ Q (λ e. e) (chosen w (codes "point") keywords.Point _ Q (λ e. e) (chosen w (codes "ask") keywords.Ask _ Q (λ e. e) (λ x e. absurd (none-some _ e))))))))
+    (chosen w (codes "ideal") keywords.Ideal _ Q (λ e. e) (chosen w (codes "point") keywords.Point _ Q (λ e. e) (chosen w (codes "let") keywords.Let _ Q (λ e. e) (chosen w (codes "ask") keywords.Ask _ Q (λ e. e)
+    (λ x e. absurd (none-some _ e)))))))))
 
 unfoldable pub ask_word : Ask → List ℕ
 ask_word asks.Parts = codes "parts"
@@ -257,16 +260,30 @@ module _ (S : Session) where
       numbered_names asks.Compatible s (λ e. (0 ≤ e) × (e ≤ 12)) (NamesPolynomial S) (NamesIdeal S) (numbers.exponent s) (names.polynomial S) (names.ideal S) (λ e u j. questions.Compatible e u j) (exponent_takes s) (polynomial_takes S) (ideal_takes S)
       (λ v w e i j small m n. grammar.compatible small.1 m n)
 
-  question_takes : (s : State) → Yields (Takes (IsQuestion S) s) (question.question_at S s)
-  unfolding question.question_at
-  question_takes s =
-      yields_then (λ w. tokens_left s ≡ Word w.0 ∷ tokens_left w.1) (Takes (IsQuestion S) s) (word s) _ (word_takes s)
-      (λ w h. yields_option (Takes (IsQuestion S) s) (question.ask_of w.0) _ _
-      (λ a e. yields_on (question.arguments a S w.1) (arguments_takes a w.1) (λ q k. (Word (ask_word a) ∷ k.0, h ∙ ap (λ v. Word v ∷ tokens_left w.1) (ask_is w.0 a e) ∙ ap (λ us. Word (ask_word a) ∷ us) k.1, k.2))) tt)
+  -- the words of some questions
+  abbrev AreAsked : (List ℕ → Option Ask) → Type 0
+  AreAsked named = (w : List ℕ) (a : Ask) → named w ≡ Some a → question.ask_of w ≡ Some a
+
+  question_by_takes : (P : Question → Type 0) (named : List ℕ → Option Ask) → AreAsked named → ((w : List ℕ) (a : Ask) → named w ≡ Some a → (s : State) → Yields (λ q. P q.0) (question.arguments a S s)) → (s : State)
+      → Yields (Takes (λ ts q. IsQuestion S ts q × P q) s) (question.question_by named S s)
+  unfolding question.question_by
+  question_by_takes P named asked also s =
+      yields_then (λ w. tokens_left s ≡ Word w.0 ∷ tokens_left w.1) (Takes (λ ts q. IsQuestion S ts q × P q) s) (word s) _ (word_takes s)
+      (λ w h. yields_option (Takes (λ ts q. IsQuestion S ts q × P q) s) (named w.0) _ _
+      (λ a e. yields_on (question.arguments a S w.1) (yields_both (Asks a w.1) (λ q. P q.0) (question.arguments a S w.1) (arguments_takes a w.1) (also w.0 a e w.1))
+      (λ q k. (Word (ask_word a) ∷ k.0.0, h ∙ ap (λ v. Word v ∷ tokens_left w.1) (ask_is w.0 a (asked w.0 a e)) ∙ ap (λ us. Word (ask_word a) ∷ us) k.0.1, (k.0.2, k.1)))) tt)
     where
       yields_on : {P Q : Question × State → Type 0} (r : Answer Question) → Yields P r → ((x : Question × State) → P x → Q x) → Yields Q r
       yields_on (Ok x) h f = f x h
       yields_on (Err fault) h f = tt
+
+  question_takes : (s : State) → Yields (Takes (λ ts q. IsQuestion S ts q × Unit {0}) s) (question.question_at S s)
+  unfolding question.question_at
+  question_takes s = question_by_takes (λ q. Unit {0}) question.ask_of (λ w a e. e) (λ w a e t. yields_anything (question.arguments a S t)) s
+
+  ideal_question_takes : (s : State) → Yields (Takes (λ ts q. IsQuestion S ts q × (question.answers_ideal q ≡ true)) s) (question.ideal_question_at S s)
+  unfolding question.ideal_question_at
+  ideal_question_takes s = question_by_takes (λ q. question.answers_ideal q ≡ true) question.ideal_ask_of (λ w a e. (ideal_ask w a e).0) (λ w a e t. arguments_answer S a (ideal_ask w a e).1 t) s
 
 -- ---- declarations
 
@@ -312,7 +329,7 @@ module _ (S : Session) (known : Contains primes S.prime) where
 
   -- The generators before it fit, and so do they with a generator more.
   abbrev FewTerms : List Terms → Type 0
-  FewTerms fs = (length fs ≤ 64) × (1 ≤ length fs → S.terms + terms_in fs ≤ 1000000)
+  FewTerms fs = (length fs ≤ 256) × (1 ≤ length fs → S.terms + terms_in fs ≤ 1000000)
 
   terms_more : (fs : List Terms) (f : Terms) → terms_in (fs ++ f ∷ []) ≡ terms_in fs + length f
   terms_more fs f = ap sum (map-append length fs (f ∷ [])) ∙ sum_by-append (λ n. n) (map length fs) (length f ∷ []) ∙ ap (λ n. terms_in fs + n) (zero-add (length f))
@@ -320,7 +337,7 @@ module _ (S : Session) (known : Contains primes S.prime) where
   generator_takes : (fs : List Terms) (s : State) → FewTerms fs → Yields (λ r. Takes (HasTerms S) s r × FewTerms (fs ++ r.0 ∷ [])) (declaration.generator S fs s)
   unfolding declaration.generator
   generator_takes fs s fits =
-      yields_if Q (leb 64 (length fs)) _ _ (λ _. tt)
+      yields_if Q (leb 256 (length fs)) _ _ (λ _. tt)
       (λ few. yields_on (declaration.counted S (S.terms + terms_in fs) s) (counted_takes (S.terms + terms_in fs) s)
       (λ f h. (h.0, (omega (arith, length-append fs (f.0 ∷ []), leb-false _ _ few), λ some. omega (arith, terms_more fs f.0, h.1)))))
     where
@@ -411,8 +428,16 @@ module _ (S : Session) (known : Contains primes S.prime) where
   unfolding statements.asking
   asking_takes s =
       yields_if (Makes (codes "ask") s) (leb 4096 (length S.asked)) _ _ (λ _. tt)
-      (λ few. yields_then (Takes (IsQuestion S) s) (Makes (codes "ask") s) (question.question_at S s) _ (question_takes S s)
-      (λ q h. end_takes (Makes (codes "ask") s) (ask S q.0) q.1 (λ e. made (codes "ask") s h.0 _ (h.1 ∙ ap (λ us. h.0 ++ us) e ∙ append-nil h.0) (grammar.asked (leb-false _ _ few) h.2))))
+      (λ few. yields_then (Takes (λ ts q. IsQuestion S ts q × Unit {0}) s) (Makes (codes "ask") s) (question.question_at S s) _ (question_takes S s)
+      (λ q h. end_takes (Makes (codes "ask") s) (ask S q.0) q.1 (λ e. made (codes "ask") s h.0 _ (h.1 ∙ ap (λ us. h.0 ++ us) e ∙ append-nil h.0) (grammar.asked (leb-false _ _ few) h.2.0))))
+
+  named_result_takes : (s : State) → Yields (Makes (codes "let") s) (declaration.named_result S s)
+  unfolding declaration.named_result
+  named_result_takes s =
+      yields_then (Begins s) (Makes (codes "let") s) (declaration.name_equals S s) _ (name_equals_takes s)
+      (λ name h. yields_then (Takes (λ ts q. IsQuestion S ts q × (question.answers_ideal q ≡ true)) name.1) (Makes (codes "let") s) (question.ideal_question_at S name.1) _ (ideal_question_takes S name.1)
+      (λ q k. end_takes (Makes (codes "let") s) (declare S name.0 (Let S.budget q.0) 0) q.1
+      (λ e. made (codes "let") s (Word name.0 ∷ Sign equals ∷ k.0) _ (h.0 ∙ ap (λ us. Word name.0 ∷ Sign equals ∷ us) (k.1 ∙ ap (λ us. k.0 ++ us) e ∙ append-nil k.0)) (grammar.named_result h.1 k.2.0 k.2.1))))
 
   later_takes : (k : Keyword) (s : State) → Yields (Makes (keyword_word k) s) (statements.later (Some k) S s)
   unfolding statements.later keyword_word
@@ -422,6 +447,7 @@ module _ (S : Session) (known : Contains primes S.prime) where
   later_takes keywords.Poly s = poly_takes s
   later_takes keywords.Ideal s = ideal_takes_line s
   later_takes keywords.Point s = point_takes_line s
+  later_takes keywords.Let s = named_result_takes s
   later_takes keywords.Ask s = asking_takes s
 
 -- ---- the ring
@@ -476,6 +502,7 @@ statement_of_takes None h (Some keywords.Budget) w e s = tt
 statement_of_takes None h (Some keywords.Poly) w e s = tt
 statement_of_takes None h (Some keywords.Ideal) w e s = tt
 statement_of_takes None h (Some keywords.Point) w e s = tt
+statement_of_takes None h (Some keywords.Let) w e s = tt
 statement_of_takes None h (Some keywords.Ask) w e s = tt
 statement_of_takes (Some S) h None w e s = tt
 statement_of_takes (Some S) h (Some k) w e s = subst (λ v. Yields (IsStatement S (Word v ∷ tokens_left s)) (statements.later (Some k) S s)) (sym (keyword_is w k e)) (later_takes S h k s)
@@ -518,6 +545,7 @@ same_prime (grammar.budget l k) h = h
 same_prime (grammar.poly n e f) h = h
 same_prime (grammar.ideal n e f g) h = h
 same_prime (grammar.point n e f) h = h
+same_prime (grammar.named_result n q a) h = h
 same_prime (grammar.asked f q) h = h
 
 pub known_next : (before : Option Session) → IsKnown before → (ts : List Token) (T : Session) → IsNext before ts T → Contains primes T.prime

@@ -16,6 +16,7 @@ pub mod Continuations
 pub mod BeginningLines
 pub mod BeginningQuestions
 pub mod BeginningStatements
+pub mod BeginningResults
 pub mod BeginningSessions
 pub mod Wanted
 pub mod WantedReadings

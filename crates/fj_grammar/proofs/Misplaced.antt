@@ -2,8 +2,8 @@
 use Rattle.std.proofs.Common.{◌≡◌, ℕ, Bool, true, false, List, [], ◌∷◌, ◌++◌, codes, Option, Some, None, refl, sym, ap, ◌∙◌, subst, append_assoc, inl, inr, ◌⊎◌}
 use Rattle.std.specs.Option.{is_some, option_and_then}
 use Rattle.fj_text.specs.Token.{Token, Word, Number, Sign}
-use Rattle.fj_script.specs.Items.{comma, slash}
-use Rattle.fj_script.specs.Question.{ask_of}
+use Rattle.fj_script.specs.Items.{comma, equals, slash}
+use Rattle.fj_script.specs.Question.{ask_of, ideal_ask_of}
 use Rattle.fj_script.specs.Session.{Session}
 use Rattle.fj_script.specs.Statement.{keyword_of}
 use Rattle.fj_grammar.specs.Beginning as beginning
@@ -13,7 +13,7 @@ use Rattle.fj_grammar.specs.Owed.{AreAlike, IsMisplaced, IsUnfinished, IsWhole, 
 use Rattle.fj_grammar.specs.Wrong.{BeginsLater}
 use Rattle.fj_grammar.proofs.Wanted.{MayEnd, Want, Beginning, Variables, run, run_behind, run_front, step}
 use Rattle.fj_grammar.proofs.WantedGrammar.{IsFull, MayCome, arity_has_come, come, comes_front, large_has_come, many_has_come, ring_full, statement_full, variables_run}
-use Rattle.fj_grammar.proofs.WantedNames.{ArePlain, needs_keyword, same_name, same_number}
+use Rattle.fj_grammar.proofs.WantedNames.{TakesAnyName, needs_keyword, same_number}
 
 no_ring_there : (ts : List Token) (ws : List Want) → run (Word (codes "ring") ∷ ts) (Beginning true ∷ []) ≡ Some ws → ⊥
 unfolding keyword_of
@@ -23,9 +23,13 @@ no_question_yet : (t : Token) (ts : List Token) (ws : List Want) → run (Word (
 unfolding keyword_of
 no_question_yet t ts ws e = cc
 
--- The two beginnings that can't go on, and the token that comes next all the same.
+no_result_yet : (t : Token) (ts : List Token) (ws : List Want) → run (Word (codes "let") ∷ t ∷ ts) (Beginning false ∷ []) ≡ Some ws → ⊥
+unfolding keyword_of
+no_result_yet t ts ws e = cc
+
+-- The beginnings that can't go on, and the token that comes next all the same.
 doomed_comes : (ring : Bool) {ts : List Token} {t : Token} → IsDoomedWith ts t → (ws : List Want) → run ts (Beginning ring ∷ []) ≡ Some ws → MayCome (ts ++ t ∷ []) (Beginning ring ∷ [])
-unfolding keyword_of ask_of
+unfolding keyword_of ask_of ideal_ask_of
 doomed_comes true (beginning.eighth {p} {ts = vs} l full) ws e = absurd (no_ring_there (Number p ∷ vs ++ Sign comma ∷ []) ws e)
 doomed_comes false (beginning.eighth {p} {ts = vs} {w = w} l full) ws e =
     comes_front {us = vs ++ Sign comma ∷ Word w ∷ []} {xs = _} (ap (λ us. run (Word (codes "ring") ∷ Number p ∷ us) (Beginning false ∷ [])) (append_assoc vs (Sign comma ∷ []) (Word w ∷ [])))
@@ -34,6 +38,8 @@ doomed_comes true beginning.left_over ws e = come refl
 doomed_comes false (beginning.left_over {F}) ws e = absurd (no_question_yet (Word (codes "left")) (Word F ∷ Number 0 ∷ Sign slash ∷ []) ws e)
 doomed_comes true beginning.isjump_over ws e = come refl
 doomed_comes false (beginning.isjump_over {F}) ws e = absurd (no_question_yet (Word (codes "isjump")) (Word F ∷ Number 0 ∷ Sign slash ∷ []) ws e)
+doomed_comes true beginning.named_left_over ws e = come refl
+doomed_comes false (beginning.named_left_over {N} {F}) ws e = absurd (no_result_yet (Word N) (Sign equals ∷ Word (codes "left") ∷ Word F ∷ Number 0 ∷ Sign slash ∷ []) ws e)
 
 later_comes : (w : List ℕ) → BeginsLater w → MayCome (Word w ∷ []) (Beginning false ∷ [])
 unfolding keyword_of
@@ -42,7 +48,8 @@ later_comes w (inr (inl e)) = subst (λ v. MayCome (Word v ∷ []) (Beginning fa
 later_comes w (inr (inr (inl e))) = subst (λ v. MayCome (Word v ∷ []) (Beginning false ∷ [])) (sym e) (come refl)
 later_comes w (inr (inr (inr (inl e)))) = subst (λ v. MayCome (Word v ∷ []) (Beginning false ∷ [])) (sym e) (come refl)
 later_comes w (inr (inr (inr (inr (inl e))))) = subst (λ v. MayCome (Word v ∷ []) (Beginning false ∷ [])) (sym e) (come refl)
-later_comes w (inr (inr (inr (inr (inr e))))) = subst (λ v. MayCome (Word v ∷ []) (Beginning false ∷ [])) (sym e) (come refl)
+later_comes w (inr (inr (inr (inr (inr (inl e)))))) = subst (λ v. MayCome (Word v ∷ []) (Beginning false ∷ [])) (sym e) (come refl)
+later_comes w (inr (inr (inr (inr (inr (inr e)))))) = subst (λ v. MayCome (Word v ∷ []) (Beginning false ∷ [])) (sym e) (come refl)
 
 -- ---- tokens that are alike
 
@@ -75,9 +82,9 @@ module _ (ring : Bool) where
   alike_run (owed.number ts us n m h) = alike_last ts us (Number n) (Number m) (alike_run h) (λ ws is. same_number n m ws)
   alike_run (owed.name ts us v w h named) = alike_last ts us (Word v) (Word w) (alike_run h) (λ ws is. by ws (needs_keyword ring ts ws is))
     where
-      by : (ws : List Want) → NeedKeyword ts ⊎ ArePlain ws → step (Word v) ws ≡ step (Word w) ws
+      by : (ws : List Want) → NeedKeyword ts ⊎ TakesAnyName ws → step (Word v) ws ≡ step (Word w) ws
       by ws (inl k) = absurd (named k)
-      by ws (inr k) = same_name v w ws k
+      by ws (inr k) = k v w
 
 -- ---- a token that isn't wanted
 

@@ -13,7 +13,7 @@ use Rattle.fj_text.specs.Word.{place_of}
 use Rattle.fj_script.specs.declared.value.Kind.{Kind}
 use Rattle.fj_script.specs.declared.value.Kind.TheVariants as values
 use Rattle.fj_script.specs.Names as names
-use Rattle.fj_script.specs.Session.{Session, Terms, Value, Poly, Ideal, Point, is_nonconstant, kind}
+use Rattle.fj_script.specs.Session.{Session, Terms, Value, Poly, Ideal, Point, Let, is_nonconstant, kind}
 use Rattle.fj_grammar.specs.Wrong.{IsNameIn}
 use Rattle.fj_grammar.proofs.GrammarPieces.{Declares, new_word}
 
@@ -28,7 +28,7 @@ found_among vs w = by (place_of vs w) refl
     by (Some i) e some = let p = position-Some (λ name. bytes_eq name w) vs i w e in (i, p.0, (bytes_eq-Decides _ _).0 p.1)
 
 module _ (S : Session) (w : List ℕ) where
-  declared_found : (i : ℕ) → place_of (names.declared_names S.values) w ≡ Some i → (v : Value) × (slice_get S.values i ≡ Some (w, v))
+  pub declared_found : (i : ℕ) → place_of (names.declared_names S.values) w ≡ Some i → (v : Value) × (slice_get S.values i ≡ Some (w, v))
   declared_found i e =
       let p = position-Some (λ name. bytes_eq name w) (names.declared_names S.values) i [] e in
       let long = length-map S.values (λ (v : List ℕ × Value). v.0) in
@@ -104,3 +104,4 @@ module _ (S : Session) (w : List ℕ) where
       by (Poly f) is e = (f, contains_at S.values i (w, Poly f) is, test f (is_nonconstant f) refl e)
       by (Ideal fs) is e = absurd cc
       by (Point cs) is e = absurd cc
+      by (Let b q) is e = absurd cc

@@ -57,10 +57,11 @@ ring_first (Some S) l f us begins wrong other ring = by (tokens_from zero zero l
 
 -- ---- what stands before the place, and may stand at it
 
--- The two beginnings that can't go on end with a sign.
+-- The beginnings that can't go on end with a sign.
 doomed_sign : {us : List Token} → IsDoomed us → (ts : List Token) (t : Token) → us ≡ ts ++ t ∷ [] → (b : ℕ) × (t ≡ Sign b)
 doomed_sign (beginning.ring {p} {vs} {ts = names} l full) ts t e = (comma, last_same ts (Word (codes "ring") ∷ Number p ∷ names) t (Sign comma) (sym e))
 doomed_sign (beginning.left {F}) ts t e = (slash, last_same ts (Word (codes "ask") ∷ Word (codes "left") ∷ Word F ∷ Number 0 ∷ []) t (Sign slash) (sym e))
+doomed_sign (beginning.named_left {N} {F}) ts t e = (slash, last_same ts (Word (codes "let") ∷ Word N ∷ Sign equals ∷ Word (codes "left") ∷ Word F ∷ Number 0 ∷ []) t (Sign slash) (sym e))
 doomed_sign (beginning.isjump {F}) ts t e = (slash, last_same ts (Word (codes "ask") ∷ Word (codes "isjump") ∷ Word F ∷ Number 0 ∷ []) t (Sign slash) (sym e))
 
 fewer_words : (ts : List Token) (t : Token) {S other : Session} → IsAlikeFor (drop 1 (ts ++ t ∷ [])) S other → IsAlikeFor (drop 1 ts) S other

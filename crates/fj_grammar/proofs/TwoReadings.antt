@@ -31,7 +31,7 @@ use Rattle.fj_script.specs.Names as names
 use Rattle.fj_script.specs.Numbers as numbers
 use Rattle.fj_script.specs.Question as question
 use Rattle.fj_script.specs.Ring as rings
-use Rattle.fj_script.specs.Session.{Session, Terms, Poly, Ideal, Point, ask, declare, new_session, terms_in}
+use Rattle.fj_script.specs.Session.{Session, Terms, Poly, Ideal, Point, Let, ask, declare, new_session, terms_in}
 use Rattle.fj_script.specs.Statement as statements
 use Rattle.fj_grammar.proofs.TwoRuns.{AlongAnswer, AlongStop, Any, IsAhead, IsEdge, after_near, edge_ahead, stands_then, taken, AreBehindBoth, IsRule, IsStop, IsTurn, Low, Stands, alike, choice_rule, choice_stop, enclosed_rule, end_stop, fault_rule, fault_stop, faulty, fine, idle_rule, later_rule, later_stop, listed_rule, next_else, next_rule, no_turn_more, option_rule, option_stop, repeat_rule, same, sign_else, sign_or, sign_then, sign_turn, then_rule, then_stop, value_rule, void, well, wrong_rule}
 
@@ -311,11 +311,19 @@ module _ (M : Type 0) (b c : ℕ) (r q : List Placed) (H : AreBehindBoth M b c r
   arguments_rule asks.Compatible S =
       idle true _ (then true numbers.exponent _ exponent_rule (λ e. later _ (then true (names.polynomial S) _ (polynomial_rule S) (λ u. later _ (then true (names.ideal S) _ (ideal_rule S) (λ j. value _))))))
 
+  question_by_rule : (named : List ℕ → Option Ask) (S : Session) → Rule true true (question.question_by named S)
+  unfolding question.question_by
+  question_by_rule named S =
+      then_rule M b c r q true false word true _ word_rule
+      (λ w. option_rule M b c r q (λ (e : LineFault). e.column) false true (named w) (λ a. question.arguments a S) _ (λ a. later_rule M b c r q (λ (e : LineFault). e.column) true _ (arguments_rule a S)) (idle false _ (wrong_at kinds.Syntax)))
+
   question_rule : (S : Session) → Rule true true (question.question_at S)
   unfolding question.question_at
-  question_rule S =
-      then_rule M b c r q true false word true _ word_rule
-      (λ w. option_rule M b c r q (λ (e : LineFault). e.column) false true (question.ask_of w) (λ a. question.arguments a S) _ (λ a. later_rule M b c r q (λ (e : LineFault). e.column) true _ (arguments_rule a S)) (idle false _ (wrong_at kinds.Syntax)))
+  question_rule S = question_by_rule question.ask_of S
+
+  ideal_question_rule : (S : Session) → Rule true true (question.ideal_question_at S)
+  unfolding question.ideal_question_at
+  ideal_question_rule S = question_by_rule question.ideal_ask_of S
 
   -- ---- declarations
 
@@ -351,7 +359,7 @@ module _ (M : Type 0) (b c : ℕ) (r q : List Placed) (H : AreBehindBoth M b c r
 
   generator_rule : (S : Session) (fs : List Terms) → Rule false false (declaration.generator S fs)
   unfolding declaration.generator
-  generator_rule S fs = either false (leb 64 (length fs)) _ _ (wrong_at kinds.Many) (later _ (counted_rule S (S.terms + terms_in fs)))
+  generator_rule S fs = either false (leb 256 (length fs)) _ _ (wrong_at kinds.Many) (later _ (counted_rule S (S.terms + terms_in fs)))
 
   ideal_stop : (S : Session) → Stop true (declaration.ideal S)
   unfolding declaration.ideal enclosed
@@ -375,6 +383,12 @@ module _ (M : Type 0) (b c : ℕ) (r q : List Placed) (H : AreBehindBoth M b c r
       last true false (declaration.name_equals S) _ (name_equals_rule S)
       (λ name. later_stop M b c r q (λ (e : LineFault). e.column) _ (last true false (enclosed (listed (declaration.coordinate S))) _ (enclosed_rule M b c r q H opening closing (listed (declaration.coordinate S)) (listed_rule M b c r q H (declaration.coordinate S) (coordinate_rule S)))
       (λ cs. choice_stop M b c r q (λ (e : LineFault). e.column) false (ltb (length cs) (length S.variables)) _ _ (wrong_stop kinds.Arity) (ends_later (declare S name (Point cs) 0)))))
+
+  named_result_stop : (S : Session) → Stop true (declaration.named_result S)
+  unfolding declaration.named_result
+  named_result_stop S =
+      last true false (declaration.name_equals S) _ (name_equals_rule S)
+      (λ name. later_stop M b c r q (λ (e : LineFault). e.column) _ (last true true (question.ideal_question_at S) _ (ideal_question_rule S) (λ q. ends (declare S name (Let S.budget q) 0))))
 
   -- ---- the ring
 
@@ -419,6 +433,7 @@ module _ (M : Type 0) (b c : ℕ) (r q : List Placed) (H : AreBehindBoth M b c r
   statement_of_stop None (Some keywords.Poly) = wrong_stop kinds.NoRing
   statement_of_stop None (Some keywords.Ideal) = wrong_stop kinds.NoRing
   statement_of_stop None (Some keywords.Point) = wrong_stop kinds.NoRing
+  statement_of_stop None (Some keywords.Let) = wrong_stop kinds.NoRing
   statement_of_stop None (Some keywords.Ask) = wrong_stop kinds.NoRing
   statement_of_stop None None = wrong_stop kinds.Syntax
   statement_of_stop (Some S) (Some keywords.Ring) = wrong_stop kinds.Syntax
@@ -427,6 +442,7 @@ module _ (M : Type 0) (b c : ℕ) (r q : List Placed) (H : AreBehindBoth M b c r
   statement_of_stop (Some S) (Some keywords.Poly) = stop_later _ (poly_stop S)
   statement_of_stop (Some S) (Some keywords.Ideal) = stop_later _ (ideal_stop S)
   statement_of_stop (Some S) (Some keywords.Point) = stop_later _ (point_stop S)
+  statement_of_stop (Some S) (Some keywords.Let) = stop_later _ (named_result_stop S)
   statement_of_stop (Some S) (Some keywords.Ask) = asking_stop S
   statement_of_stop (Some S) None = wrong_stop kinds.Syntax
 

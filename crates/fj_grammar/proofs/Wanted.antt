@@ -9,10 +9,11 @@ use Rattle.fj_script.specs.declared.ask.Ask.TheVariants as asks
 use Rattle.fj_script.specs.declared.statement.Keyword.{Keyword}
 use Rattle.fj_script.specs.declared.statement.Keyword.TheVariants as keywords
 use Rattle.fj_script.specs.Items.{comma, equals, slash}
-use Rattle.fj_script.specs.Question.{ask_of}
+use Rattle.fj_script.specs.Question.{ask_of, ideal_ask_of}
 use Rattle.fj_script.specs.Statement.{keyword_of, order_of}
 
--- A statement, where there is a ring or not; a name; a number; a sign; the word of an order and of a question; and an atom.
+-- A statement, where there is a ring or not; a name; a number; a sign; the word of an order, of a question, and of a question that
+-- has an ideal as its answer; and an atom.
 -- The others may be missing: a name, a power, more factors, more summands, a `-`, a denominator, more variables, more generators
 -- and more coordinates.
 pub data Want : Type 0 where
@@ -22,6 +23,7 @@ pub data Want : Type 0 where
   Mark : ℕ → Want
   OrderWord : Want
   QuestionWord : Want
+  IdealWord : Want
   Operand : Want
   PerhapsName : Want
   Power : Want
@@ -63,6 +65,7 @@ wants_of_keyword false keywords.Budget = Some []
 wants_of_keyword false keywords.Poly = Some []
 wants_of_keyword false keywords.Ideal = Some []
 wants_of_keyword false keywords.Point = Some []
+wants_of_keyword false keywords.Let = Some []
 wants_of_keyword false keywords.Ask = Some []
 wants_of_keyword true keywords.Ring = None
 wants_of_keyword true keywords.Order = Some (OrderWord ∷ [])
@@ -70,6 +73,7 @@ wants_of_keyword true keywords.Budget = Some (Numeral ∷ [])
 wants_of_keyword true keywords.Poly = Some (Name ∷ Mark equals ∷ an_expression [])
 wants_of_keyword true keywords.Ideal = Some (Name ∷ Mark equals ∷ Mark opening ∷ an_expression (Generators ∷ Mark closing ∷ []))
 wants_of_keyword true keywords.Point = Some (Name ∷ Mark equals ∷ Mark opening ∷ a_coordinate (Coordinates ∷ Mark closing ∷ []))
+wants_of_keyword true keywords.Let = Some (Name ∷ Mark equals ∷ IdealWord ∷ [])
 wants_of_keyword true keywords.Ask = Some (QuestionWord ∷ [])
 
 abbrev pub at_word : List ℕ → Want → List Want → Option (List Want) → Option (List Want)
@@ -79,6 +83,7 @@ at_word w Numeral ws others = None
 at_word w (Mark b) ws others = None
 at_word w OrderWord ws others = cond (is_some (order_of w)) (Some ws) None
 at_word w QuestionWord ws others = option_map wants_of_ask (ask_of w)
+at_word w IdealWord ws others = option_map wants_of_ask (ideal_ask_of w)
 at_word w Operand ws others = Some ws
 at_word w PerhapsName ws others = Some ws
 at_word w Power ws others = others
@@ -97,6 +102,7 @@ at_number Numeral ws others = Some ws
 at_number (Mark b) ws others = None
 at_number OrderWord ws others = None
 at_number QuestionWord ws others = None
+at_number IdealWord ws others = None
 at_number Operand ws others = Some ws
 at_number PerhapsName ws others = others
 at_number Power ws others = others
@@ -115,6 +121,7 @@ at_sign b Numeral ws others = None
 at_sign b (Mark c) ws others = cond (b == c) (Some ws) None
 at_sign b OrderWord ws others = None
 at_sign b QuestionWord ws others = None
+at_sign b IdealWord ws others = None
 at_sign b Operand ws others = cond (b == opening) (Some (an_expression (Mark closing ∷ ws))) None
 at_sign b PerhapsName ws others = others
 at_sign b Power ws others = cond (b == caret) (Some (Numeral ∷ ws)) others
@@ -154,6 +161,7 @@ MayBeMissing Numeral = ⊥
 MayBeMissing (Mark b) = ⊥
 MayBeMissing OrderWord = ⊥
 MayBeMissing QuestionWord = ⊥
+MayBeMissing IdealWord = ⊥
 MayBeMissing Operand = ⊥
 MayBeMissing PerhapsName = Unit {0}
 MayBeMissing Power = Unit {0}

@@ -19,7 +19,7 @@ use Rattle.fj_grammar.specs.Large as large
 use Rattle.fj_grammar.specs.Large.{HasLarge, IsLargeAtom, IsLargeExpression, IsLargeFactor, IsLargeIn, IsLargeTerm}
 use Rattle.fj_grammar.specs.Many as rank
 use Rattle.fj_grammar.specs.Many.{AreTooMany, HaveWrongArity}
-use Rattle.fj_grammar.proofs.Wanted.{MayEnd, Want, Beginning, Coordinates, Denominator, Factors, Generators, Mark, Name, Negative, Numeral, Operand, Power, QuestionWord, Summands, Variables, a_coordinate, a_term, an_expression, ended, missing, run, run_behind, step}
+use Rattle.fj_grammar.proofs.Wanted.{MayEnd, Want, Beginning, Coordinates, Denominator, Factors, Generators, Mark, Name, Negative, Numeral, Operand, Power, QuestionWord, IdealWord, Summands, Variables, a_coordinate, a_term, an_expression, ended, missing, run, run_behind, step}
 
 -- Tokens may come, and then this is wanted, or a power and this.
 record Reach (ts : List Token) (vs ws : List Want) : Type 0 where
@@ -216,6 +216,32 @@ question_full (grammar.fpure_at j at) = full refl ended
 question_full (grammar.split j) = full refl ended
 question_full (grammar.compatible e u j) = full refl ended
 
+-- a question that has an ideal as its answer
+ideal_question_full : {S : Session} {ts : List Token} {q : Question} → IsQuestion S ts q → question.answers_ideal q ≡ true → IsFull ts (IdealWord ∷ [])
+unfolding question.ask_of question.ideal_ask_of
+ideal_question_full (grammar.parts e f) is = absurd cc
+ideal_question_full (grammar.basis j) is = full refl ended
+ideal_question_full (grammar.member f j) is = absurd cc
+ideal_question_full (grammar.same j k) is = absurd cc
+ideal_question_full (grammar.sum j k) is = full refl ended
+ideal_question_full (grammar.product j k) is = full refl ended
+ideal_question_full (grammar.meet j k) is = full refl ended
+ideal_question_full (grammar.colon j k) is = full refl ended
+ideal_question_full (grammar.power e j) is = full refl ended
+ideal_question_full (grammar.root e j) is = full refl ended
+ideal_question_full (grammar.test f t) is = full_front refl (ratio_full t)
+ideal_question_full (grammar.left f t above) is = full_front refl (ratio_full t)
+ideal_question_full (grammar.isjump f t above) is = absurd cc
+ideal_question_full (grammar.regular f t) is = absurd cc
+ideal_question_full (grammar.jumps f e) is = absurd cc
+ideal_question_full (grammar.nu e f j) is = absurd cc
+ideal_question_full (grammar.threshold f j e) is = absurd cc
+ideal_question_full (grammar.threshold_at f at e) is = absurd cc
+ideal_question_full (grammar.fpure j) is = absurd cc
+ideal_question_full (grammar.fpure_at j at) is = absurd cc
+ideal_question_full (grammar.split j) is = full refl ended
+ideal_question_full (grammar.compatible e u j) is = absurd cc
+
 pub ring_full : {ts : List Token} {S : Session} → IsRing ts S → IsFull ts (Beginning false ∷ [])
 unfolding statements.keyword_of
 ring_full (grammar.ring known l few apart) = full (variables_run l []) (missing tt ended)
@@ -229,6 +255,7 @@ statement_full (grammar.budget low high) = full refl ended
 statement_full (grammar.poly new h few) = full_front refl (reach_full (terms_run h []) (missing tt (missing tt ended)))
 statement_full (grammar.ideal new l few terms) = full (go_on (Sign closing ∷ []) (Some []) (generators_run l (Mark closing ∷ [])) refl refl) ended
 statement_full (grammar.point {ts = ts} new l each) = full (run_behind ts (Sign closing ∷ []) (a_coordinate (Coordinates ∷ Mark closing ∷ [])) (Coordinates ∷ Mark closing ∷ []) (coordinates_run l (Mark closing ∷ []))) ended
+statement_full (grammar.named_result new q answers) = full_front refl (ideal_question_full q answers)
 statement_full (grammar.asked few q) = full_front refl (question_full q)
 
 -- ---- beginnings that have another fault
@@ -245,7 +272,8 @@ unfolding statements.keyword_of
 many_has_come (rank.questions many) = come refl
 many_has_come (rank.names {name = name} (inl e) v w many) = subst (λ k. MayCome (Word k ∷ Word name ∷ []) (Beginning true ∷ [])) (sym e) (come refl)
 many_has_come (rank.names {name = name} (inr (inl e)) v w many) = subst (λ k. MayCome (Word k ∷ Word name ∷ []) (Beginning true ∷ [])) (sym e) (come refl)
-many_has_come (rank.names {name = name} (inr (inr e)) v w many) = subst (λ k. MayCome (Word k ∷ Word name ∷ []) (Beginning true ∷ [])) (sym e) (come refl)
+many_has_come (rank.names {name = name} (inr (inr (inl e))) v w many) = subst (λ k. MayCome (Word k ∷ Word name ∷ []) (Beginning true ∷ [])) (sym e) (come refl)
+many_has_come (rank.names {name = name} (inr (inr (inr e))) v w many) = subst (λ k. MayCome (Word k ∷ Word name ∷ []) (Beginning true ∷ [])) (sym e) (come refl)
 many_has_come (rank.generators new l full) = come (go_on (Sign comma ∷ []) (Some (an_expression (Generators ∷ Mark closing ∷ []))) (generators_run l (Mark closing ∷ [])) refl refl)
 many_has_come (rank.terms new h many) = comes_front refl (comes (terms_run h []))
 many_has_come (rank.generator_terms new l few many) = comes_front refl (comes (generators_run l (Mark closing ∷ [])))

@@ -1,18 +1,19 @@
 -- Where one number may come any may, and where one name may come any word may.
 use Rattle.std.proofs.Common.{◌≡◌, ℕ, ◌==◌, Bool, true, false, cond, List, [], ◌∷◌, codes, Option, Some, None, refl, sym, ap, ◌∙◌, subst, inl, inr, ◌⊎◌}
 use Rattle.std.specs.Option.{is_some, option_and_then, option_map, option_map_or}
+use Rattle.std.proofs.lemmas.Bool.{eqb-true}
 use Rattle.fj_text.specs.Token.{Token, Word, Number, Sign, BadByte, caret, minus, opening, plus, star}
 use Rattle.fj_script.specs.declared.ask.Ask.{Ask}
 use Rattle.fj_script.specs.declared.ask.Ask.TheVariants as asks
 use Rattle.fj_script.specs.declared.statement.Keyword.{Keyword}
 use Rattle.fj_script.specs.declared.statement.Keyword.TheVariants as keywords
-use Rattle.fj_script.specs.Items.{comma, slash}
-use Rattle.fj_script.specs.Question.{ask_of}
+use Rattle.fj_script.specs.Items.{comma, equals, slash}
+use Rattle.fj_script.specs.Question.{ask_of, ideal_ask_of}
 use Rattle.fj_script.specs.Statement.{keyword_of, order_of}
 use Rattle.fj_grammar.specs.Owed as owed
 use Rattle.fj_grammar.specs.Owed.{NeedKeyword}
 use Rattle.fj_grammar.proofs.GrammarSound.{keyword_is, keyword_word}
-use Rattle.fj_grammar.proofs.Wanted.{Want, Beginning, Coordinates, Denominator, Factors, Generators, Mark, Name, Negative, Numeral, Operand, OrderWord, PerhapsName, Power, QuestionWord, Summands, Variables, at_number, at_sign, at_word, run, step, wants_of_ask, wants_of_keyword}
+use Rattle.fj_grammar.proofs.Wanted.{Want, Beginning, Coordinates, Denominator, Factors, Generators, Mark, Name, Negative, Numeral, Operand, OrderWord, PerhapsName, Power, QuestionWord, IdealWord, Summands, Variables, at_number, at_sign, at_word, run, step, wants_of_ask, wants_of_keyword}
 
 pub same_number : (n m : ℕ) (ws : List Want) → step (Number n) ws ≡ step (Number m) ws
 same_number n m [] = refl
@@ -23,6 +24,7 @@ abbrev IsPlain : Want → Type 0
 IsPlain (Beginning ring) = ⊥
 IsPlain OrderWord = ⊥
 IsPlain QuestionWord = ⊥
+IsPlain IdealWord = ⊥
 IsPlain Name = Unit {0}
 IsPlain Numeral = Unit {0}
 IsPlain (Mark b) = Unit {0}
@@ -53,6 +55,7 @@ at_word_plain : (w : List ℕ) (x : Want) (ws : List Want) (o : Option (List Wan
 at_word_plain w (Beginning ring) ws o h k l = absurd h
 at_word_plain w OrderWord ws o h k l = absurd h
 at_word_plain w QuestionWord ws o h k l = absurd h
+at_word_plain w IdealWord ws o h k l = absurd h
 at_word_plain w Name ws o h k l = there k
 at_word_plain w Numeral ws o h k l = nothing
 at_word_plain w (Mark b) ws o h k l = nothing
@@ -71,6 +74,7 @@ at_number_plain : (x : Want) (ws : List Want) (o : Option (List Want)) → IsPla
 at_number_plain (Beginning ring) ws o h k l = absurd h
 at_number_plain OrderWord ws o h k l = absurd h
 at_number_plain QuestionWord ws o h k l = absurd h
+at_number_plain IdealWord ws o h k l = absurd h
 at_number_plain Name ws o h k l = nothing
 at_number_plain Numeral ws o h k l = there k
 at_number_plain (Mark b) ws o h k l = nothing
@@ -89,6 +93,7 @@ at_sign_plain : (b : ℕ) (x : Want) (ws : List Want) (o : Option (List Want)) �
 at_sign_plain b (Beginning ring) ws o h k l = absurd h
 at_sign_plain b OrderWord ws o h k l = absurd h
 at_sign_plain b QuestionWord ws o h k l = absurd h
+at_sign_plain b IdealWord ws o h k l = absurd h
 at_sign_plain b Name ws o h k l = nothing
 at_sign_plain b Numeral ws o h k l = nothing
 at_sign_plain b (Mark c) ws o h k l = plain_if (b == c) (there k) nothing
@@ -163,6 +168,16 @@ question_next (Number n) = nothing
 question_next (Sign b) = nothing
 question_next BadByte = nothing
 
+ideal_next : (t : Token) → PlainThere (step t (IdealWord ∷ []))
+ideal_next (Word w) = by (ideal_ask_of w)
+  where
+    by : (o : Option Ask) → PlainThere (option_map wants_of_ask o)
+    by None = nothing
+    by (Some a) = there (ask_plain a)
+ideal_next (Number n) = nothing
+ideal_next (Sign b) = nothing
+ideal_next BadByte = nothing
+
 named_order : {w : List ℕ} → w ≡ keyword_word keywords.Order → w ≡ codes "order"
 unfolding keyword_word
 named_order e = e
@@ -171,46 +186,11 @@ named_ask : {w : List ℕ} → w ≡ keyword_word keywords.Ask → w ≡ codes "
 unfolding keyword_word
 named_ask e = e
 
--- Where no word of a fixed list has to come only plain wants are left.
-pub needs_keyword : (ring : Bool) (ts : List Token) (ws : List Want) → run ts (Beginning ring ∷ []) ≡ Some ws → NeedKeyword ts ⊎ ArePlain ws
-needs_keyword ring [] ws e = inl owed.statement
-needs_keyword ring (Number n ∷ ts) ws e = absurd cc
-needs_keyword ring (Sign b ∷ ts) ws e = absurd cc
-needs_keyword ring (BadByte ∷ ts) ws e = absurd cc
-needs_keyword ring (Word w ∷ ts) ws e = by ring (keyword_of w) refl e
-  where
-    plain : (vs : List Want) → ArePlain vs → run ts vs ≡ Some ws → NeedKeyword (Word w ∷ ts) ⊎ ArePlain ws
-    plain vs h k = inr (there_plain (run ts vs) ws k (run_plain ts vs h))
+named_let : {w : List ℕ} → w ≡ keyword_word keywords.Let → w ≡ codes "let"
+unfolding keyword_word
+named_let e = e
 
-    order_first : w ≡ codes "order" → (ts ≡ []) ⊎ ArePlain ws → NeedKeyword (Word w ∷ ts) ⊎ ArePlain ws
-    order_first is (inl e) = inl (subst NeedKeyword (sym (ap (λ v. Word v ∷ ts) is ∙ ap (λ us. Word (codes "order") ∷ us) e)) owed.order)
-    order_first is (inr h) = inr h
-
-    ask_first : w ≡ codes "ask" → (ts ≡ []) ⊎ ArePlain ws → NeedKeyword (Word w ∷ ts) ⊎ ArePlain ws
-    ask_first is (inl e) = inl (subst NeedKeyword (sym (ap (λ v. Word v ∷ ts) is ∙ ap (λ us. Word (codes "ask") ∷ us) e)) owed.question)
-    ask_first is (inr h) = inr h
-
-    word_is : (k : Keyword) → keyword_of w ≡ Some k → w ≡ keyword_word k
-    word_is k is = keyword_is w k is
-
-    by : (ring : Bool) (o : Option Keyword) → keyword_of w ≡ o → option_and_then (run ts) (option_map_or (wants_of_keyword ring) o None) ≡ Some ws → NeedKeyword (Word w ∷ ts) ⊎ ArePlain ws
-    by ring None is h = absurd cc
-    by false (Some keywords.Ring) is h = plain _ (more tt (more tt (more tt none))) h
-    by false (Some keywords.Order) is h = plain _ none h
-    by false (Some keywords.Budget) is h = plain _ none h
-    by false (Some keywords.Poly) is h = plain _ none h
-    by false (Some keywords.Ideal) is h = plain _ none h
-    by false (Some keywords.Point) is h = plain _ none h
-    by false (Some keywords.Ask) is h = plain _ none h
-    by true (Some keywords.Ring) is h = absurd cc
-    by true (Some keywords.Order) is h = order_first (named_order (word_is keywords.Order is)) (keyword_next OrderWord order_next ts ws h)
-    by true (Some keywords.Budget) is h = plain _ (more tt none) h
-    by true (Some keywords.Poly) is h = plain _ (more tt (more tt (more tt (more tt (more tt (more tt (more tt none))))))) h
-    by true (Some keywords.Ideal) is h = plain _ (more tt (more tt (more tt (more tt (more tt (more tt (more tt (more tt (more tt (more tt none)))))))))) h
-    by true (Some keywords.Point) is h = plain _ (more tt (more tt (more tt (more tt (more tt (more tt (more tt none))))))) h
-    by true (Some keywords.Ask) is h = ask_first (named_ask (word_is keywords.Ask is)) (keyword_next QuestionWord question_next ts ws h)
-
-pub same_name : (v w : List ℕ) (ws : List Want) → ArePlain ws → step (Word v) ws ≡ step (Word w) ws
+same_name : (v w : List ℕ) (ws : List Want) → ArePlain ws → step (Word v) ws ≡ step (Word w) ws
 same_name v w [] none = refl
 same_name v w (x ∷ ws) (more h k) = by x h (same_name v w ws k)
   where
@@ -218,6 +198,7 @@ same_name v w (x ∷ ws) (more h k) = by x h (same_name v w ws k)
     by (Beginning ring) k e = absurd k
     by OrderWord k e = absurd k
     by QuestionWord k e = absurd k
+    by IdealWord k e = absurd k
     by Name k e = refl
     by Numeral k e = refl
     by (Mark b) k e = refl
@@ -231,3 +212,74 @@ same_name v w (x ∷ ws) (more h k) = by x h (same_name v w ws k)
     by Variables k e = e
     by Generators k e = e
     by Coordinates k e = e
+
+-- Any two words are alike where so much is wanted.
+abbrev pub TakesAnyName : List Want → Type 0
+TakesAnyName ws = (v w : List ℕ) → step (Word v) ws ≡ step (Word w) ws
+
+-- Where no word of a fixed list has to come, any two words are alike.
+pub needs_keyword : (ring : Bool) (ts : List Token) (ws : List Want) → run ts (Beginning ring ∷ []) ≡ Some ws → NeedKeyword ts ⊎ TakesAnyName ws
+needs_keyword ring [] ws e = inl owed.statement
+needs_keyword ring (Number n ∷ ts) ws e = absurd cc
+needs_keyword ring (Sign b ∷ ts) ws e = absurd cc
+needs_keyword ring (BadByte ∷ ts) ws e = absurd cc
+needs_keyword ring (Word w ∷ ts) ws e = by ring (keyword_of w) refl e
+  where
+    any_name : ArePlain ws → TakesAnyName ws
+    any_name h v w = same_name v w ws h
+
+    plain : (vs : List Want) → ArePlain vs → run ts vs ≡ Some ws → NeedKeyword (Word w ∷ ts) ⊎ TakesAnyName ws
+    plain vs h k = inr (any_name (there_plain (run ts vs) ws k (run_plain ts vs h)))
+
+    order_first : w ≡ codes "order" → (ts ≡ []) ⊎ ArePlain ws → NeedKeyword (Word w ∷ ts) ⊎ TakesAnyName ws
+    order_first is (inl e) = inl (subst NeedKeyword (sym (ap (λ v. Word v ∷ ts) is ∙ ap (λ us. Word (codes "order") ∷ us) e)) owed.order)
+    order_first is (inr h) = inr (any_name h)
+
+    ask_first : w ≡ codes "ask" → (ts ≡ []) ⊎ ArePlain ws → NeedKeyword (Word w ∷ ts) ⊎ TakesAnyName ws
+    ask_first is (inl e) = inl (subst NeedKeyword (sym (ap (λ v. Word v ∷ ts) is ∙ ap (λ us. Word (codes "ask") ∷ us) e)) owed.question)
+    ask_first is (inr h) = inr (any_name h)
+
+    -- behind `let` a name and `=` come first
+    let_first : w ≡ codes "let" → (us : List Token) → us ≡ ts → run us (Name ∷ Mark equals ∷ IdealWord ∷ []) ≡ Some ws → NeedKeyword (Word w ∷ ts) ⊎ TakesAnyName ws
+    let_first is [] e h = inr (let same : Name ∷ Mark equals ∷ IdealWord ∷ [] ≡ ws = cc in subst TakesAnyName same (λ v w. refl))
+    let_first is (Number n ∷ us) e h = absurd cc
+    let_first is (Sign b ∷ us) e h = absurd cc
+    let_first is (BadByte ∷ us) e h = absurd cc
+    let_first is (Word v ∷ us) e h = behind_name v us e h
+      where
+        behind_name : (v : List ℕ) (us : List Token) → Word v ∷ us ≡ ts → run us (Mark equals ∷ IdealWord ∷ []) ≡ Some ws → NeedKeyword (Word w ∷ ts) ⊎ TakesAnyName ws
+        behind_name v [] e h = inr (let same : Mark equals ∷ IdealWord ∷ [] ≡ ws = cc in subst TakesAnyName same (λ v w. refl))
+        behind_name v (Word u ∷ us) e h = absurd cc
+        behind_name v (Number n ∷ us) e h = absurd cc
+        behind_name v (BadByte ∷ us) e h = absurd cc
+        behind_name v (Sign b ∷ us) e h = behind_sign (b == equals) refl h
+          where
+            next_word : b ≡ equals → (us ≡ []) ⊎ ArePlain ws → NeedKeyword (Word w ∷ ts) ⊎ TakesAnyName ws
+            next_word same (inl ended) = inl (subst NeedKeyword (sym (ap (λ u. Word u ∷ ts) is ∙ ap (λ us. Word (codes "let") ∷ us) (sym e ∙ ap (λ b. Word v ∷ Sign b ∷ us) same ∙ ap (λ us. Word v ∷ Sign equals ∷ us) ended))) owed.named_result)
+            next_word same (inr h) = inr (any_name h)
+
+            behind_sign : (c : Bool) → (b == equals) ≡ c → option_and_then (run us) (cond c (Some (IdealWord ∷ [])) None) ≡ Some ws → NeedKeyword (Word w ∷ ts) ⊎ TakesAnyName ws
+            behind_sign true same h = next_word (eqb-true b equals same) (keyword_next IdealWord ideal_next us ws h)
+            behind_sign false same h = absurd cc
+
+    word_is : (k : Keyword) → keyword_of w ≡ Some k → w ≡ keyword_word k
+    word_is k is = keyword_is w k is
+
+    by : (ring : Bool) (o : Option Keyword) → keyword_of w ≡ o → option_and_then (run ts) (option_map_or (wants_of_keyword ring) o None) ≡ Some ws → NeedKeyword (Word w ∷ ts) ⊎ TakesAnyName ws
+    by ring None is h = absurd cc
+    by false (Some keywords.Ring) is h = plain _ (more tt (more tt (more tt none))) h
+    by false (Some keywords.Order) is h = plain _ none h
+    by false (Some keywords.Budget) is h = plain _ none h
+    by false (Some keywords.Poly) is h = plain _ none h
+    by false (Some keywords.Ideal) is h = plain _ none h
+    by false (Some keywords.Point) is h = plain _ none h
+    by false (Some keywords.Let) is h = plain _ none h
+    by false (Some keywords.Ask) is h = plain _ none h
+    by true (Some keywords.Ring) is h = absurd cc
+    by true (Some keywords.Order) is h = order_first (named_order (word_is keywords.Order is)) (keyword_next OrderWord order_next ts ws h)
+    by true (Some keywords.Budget) is h = plain _ (more tt none) h
+    by true (Some keywords.Poly) is h = plain _ (more tt (more tt (more tt (more tt (more tt (more tt (more tt none))))))) h
+    by true (Some keywords.Ideal) is h = plain _ (more tt (more tt (more tt (more tt (more tt (more tt (more tt (more tt (more tt (more tt none)))))))))) h
+    by true (Some keywords.Point) is h = plain _ (more tt (more tt (more tt (more tt (more tt (more tt (more tt none))))))) h
+    by true (Some keywords.Let) is h = let_first (named_let (word_is keywords.Let is)) ts refl h
+    by true (Some keywords.Ask) is h = ask_first (named_ask (word_is keywords.Ask is)) (keyword_next QuestionWord question_next ts ws h)

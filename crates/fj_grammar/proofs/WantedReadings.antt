@@ -32,11 +32,11 @@ use Rattle.fj_script.specs.Names as names
 use Rattle.fj_script.specs.Numbers as numbers
 use Rattle.fj_script.specs.Question as question
 use Rattle.fj_script.specs.Ring as rings
-use Rattle.fj_script.specs.Session.{Session, Terms, Poly, Ideal, Point, ask, declare, new_session, terms_in}
+use Rattle.fj_script.specs.Session.{Session, Terms, Poly, Ideal, Point, Let, ask, declare, new_session, terms_in}
 use Rattle.fj_script.specs.Statement as statements
 use Rattle.fj_grammar.proofs.Beginnings.{end_last, toks}
 use Rattle.fj_grammar.proofs.TwoReadings.{line_from, mapped}
-use Rattle.fj_grammar.proofs.Wanted.{MayEnd, NotNext, Want, Beginning, Coordinates, Denominator, Factors, Generators, Mark, Name, Negative, Numeral, Operand, OrderWord, PerhapsName, Power, QuestionWord, Summands, Variables, a_coordinate, a_term, an_expression, IsOptional, coordinates_optional, denominator_optional, factors_optional, generators_optional, left_none, minus_step, negative_optional, neither_step, none_left, on_sign, others_end, plus_step, power_optional, run, run_behind, step, still_wanted, variables_optional, wants_of_ask, wants_of_keyword}
+use Rattle.fj_grammar.proofs.Wanted.{MayEnd, NotNext, Want, Beginning, Coordinates, Denominator, Factors, Generators, Mark, Name, Negative, Numeral, Operand, OrderWord, PerhapsName, Power, QuestionWord, IdealWord, Summands, Variables, a_coordinate, a_term, an_expression, IsOptional, coordinates_optional, denominator_optional, factors_optional, generators_optional, left_none, minus_step, negative_optional, neither_step, none_left, on_sign, others_end, plus_step, power_optional, run, run_behind, step, still_wanted, variables_optional, wants_of_ask, wants_of_keyword}
 
 -- a line was read from the state s0 on, where this was wanted first
 module _ (s0 : State) (first : List Want) where
@@ -619,16 +619,36 @@ module _ (s0 : State) (first : List Want) where
       handle (Sign b) u k = failed (k.bad (none (Sign b) (λ w is. cc)))
       handle BadByte u k = failed tt
 
+  -- a want that only words of questions meet
+  record IsQuestionWord (x : Want) (named : List ℕ → Option Ask) : Type 0 where
+    needed : MayEnd (x ∷ []) → ⊥
+    word : (w : List ℕ) → step (Word w) (x ∷ []) ≡ option_map wants_of_ask (named w)
+    other : (tok : Token) → ((w : List ℕ) → tok ≡ Word w → ⊥) → step tok (x ∷ []) ≡ None
+
+  question_by_takes : (x : Want) (named : List ℕ → Option Ask) → IsQuestionWord x named → (S : Session) → Takes (λ e. e) (x ∷ []) [] (question.question_by named S)
+  unfolding question.question_by
+  question_by_takes x named X S = record { from = λ s at. named_post _ s at X.needed (λ w u k. by s w u k (named w) refl) X.other }
+    where
+      by : (s : State) (w : List ℕ) (u : State) → Next (x ∷ []) (Word w) (length s.left) u → (o : Option Ask) → named w ≡ o
+          → Post (λ e. e) (Goes (length s.left) []) (option_map_or (λ a. question.arguments a S u) o (Err (fault_at kinds.Syntax u)))
+      by s w u k None is = failed (k.bad (X.word w ∙ ap (option_map wants_of_ask) is))
+      by s w u k (Some a) is = let short = k.short in less (length u.left) (length s.left) (omega (arith, short)) ((arguments_take a S).from u (k.good (wants_of_ask a) (X.word w ∙ ap (option_map wants_of_ask) is)))
+
   question_takes : (S : Session) → Takes (λ e. e) (QuestionWord ∷ []) [] (question.question_at S)
   unfolding question.question_at
-  question_takes S = record { from = λ s at. named_post _ s at (still_wanted (λ h. h)) (λ w u k. by s w u k (question.ask_of w) refl) other }
+  question_takes S = question_by_takes QuestionWord question.ask_of (record { needed = still_wanted (λ h. h); word = λ w. refl; other = other }) S
     where
-      by : (s : State) (w : List ℕ) (u : State) → Next (QuestionWord ∷ []) (Word w) (length s.left) u → (o : Option Ask) → question.ask_of w ≡ o
-          → Post (λ e. e) (Goes (length s.left) []) (option_map_or (λ a. question.arguments a S u) o (Err (fault_at kinds.Syntax u)))
-      by s w u k None is = failed (k.bad (ap (option_map wants_of_ask) is))
-      by s w u k (Some a) is = let short = k.short in less (length u.left) (length s.left) (omega (arith, short)) ((arguments_take a S).from u (k.good (wants_of_ask a) (ap (option_map wants_of_ask) is)))
-
       other : (tok : Token) → ((w : List ℕ) → tok ≡ Word w → ⊥) → step tok (QuestionWord ∷ []) ≡ None
+      other (Word w) not_word = absurd (not_word w refl)
+      other (Number n) not_word = refl
+      other (Sign b) not_word = refl
+      other BadByte not_word = refl
+
+  ideal_question_takes : (S : Session) → Takes (λ e. e) (IdealWord ∷ []) [] (question.ideal_question_at S)
+  unfolding question.ideal_question_at
+  ideal_question_takes S = question_by_takes IdealWord question.ideal_ask_of (record { needed = still_wanted (λ h. h); word = λ w. refl; other = other }) S
+    where
+      other : (tok : Token) → ((w : List ℕ) → tok ≡ Word w → ⊥) → step tok (IdealWord ∷ []) ≡ None
       other (Word w) not_word = absurd (not_word w refl)
       other (Number n) not_word = refl
       other (Sign b) not_word = refl
@@ -658,7 +678,7 @@ module _ (s0 : State) (first : List Want) where
 
   generator_takes : {ws : List Want} (S : Session) (fs : List Terms) → Takes (λ e. e) (an_expression ws) ws (declaration.generator S fs)
   unfolding declaration.generator
-  generator_takes S fs = if_takes (leb 64 (length fs)) _ _ (refusal kinds.Many (λ c. tt)) (counted_takes S (S.terms + terms_in fs))
+  generator_takes S fs = if_takes (leb 256 (length fs)) _ _ (refusal kinds.Many (λ c. tt)) (counted_takes S (S.terms + terms_in fs))
 
   ideal_stops : (S : Session) → Stops (Name ∷ Mark equals ∷ Mark opening ∷ an_expression (Generators ∷ Mark closing ∷ [])) (declaration.ideal S)
   unfolding declaration.ideal
@@ -681,6 +701,10 @@ module _ (s0 : State) (first : List Want) where
       then_stops (declaration.name_equals S) _ (name_equals_takes S)
       (λ name. then_stops (enclosed (listed (declaration.coordinate S))) _ (enclosed_takes (listed (declaration.coordinate S)) (listed_takes (declaration.coordinate S) (Mark closing ∷ []) coordinates_optional (coordinate_takes S) (coordinate_takes S [])))
       (λ cs. record { from = λ s at. if_post (ltb (length cs) (length S.variables)) (failed tt) ((ends (declare S name (Point cs) 0)).from s at) }))
+
+  named_result_stops : (S : Session) → Stops (Name ∷ Mark equals ∷ IdealWord ∷ []) (declaration.named_result S)
+  unfolding declaration.named_result
+  named_result_stops S = then_stops (declaration.name_equals S) _ (name_equals_takes S) (λ name. then_stops (question.ideal_question_at S) _ (ideal_question_takes S) (λ q. ends (declare S name (Let S.budget q) 0)))
 
   -- ---- statements
 
@@ -728,6 +752,7 @@ module _ (s0 : State) (first : List Want) where
   keyword_post None keywords.Poly u good bad = failed tt
   keyword_post None keywords.Ideal u good bad = failed tt
   keyword_post None keywords.Point u good bad = failed tt
+  keyword_post None keywords.Let u good bad = failed tt
   keyword_post None keywords.Ask u good bad = failed tt
   keyword_post (Some S) keywords.Ring u good bad = failed (bad refl)
   keyword_post (Some S) keywords.Order u good bad = (order_stops S).from u (good _ refl)
@@ -735,6 +760,7 @@ module _ (s0 : State) (first : List Want) where
   keyword_post (Some S) keywords.Poly u good bad = (poly_stops S).from u (good _ refl)
   keyword_post (Some S) keywords.Ideal u good bad = (ideal_stops S).from u (good _ refl)
   keyword_post (Some S) keywords.Point u good bad = (point_stops S).from u (good _ refl)
+  keyword_post (Some S) keywords.Let u good bad = (named_result_stops S).from u (good _ refl)
   keyword_post (Some S) keywords.Ask u good bad = (asking_stops S).from u (good _ refl)
 
   word_post : (before : Option Session) (w : List ℕ) (o : Option Keyword) → statements.keyword_of w ≡ o → {n : ℕ} (u : State) → Next (Beginning (is_some before) ∷ []) (Word w) n u → Post (λ e. e) Anything (statements.statement_of before o u)

@@ -2,7 +2,7 @@
 use Rattle.std.specs.Prelude.{◌≡◌, ℕ, ◌-◌, ◌↔◌, ◌⊎◌, List, [], ◌∷◌, ◌++◌, map, take, drop, length, All, Contains, Option, Some, None, Err, codes}
 use Rattle.fj_text.specs.Token.{Token, Word, Number, Sign}
 use Rattle.fj_script.specs.declared.fault.Fault.{Fault}
-use Rattle.fj_script.specs.Items.{comma, slash}
+use Rattle.fj_script.specs.Items.{comma, equals, slash}
 use Rattle.fj_script.specs.Script.{lines, script}
 use Rattle.fj_script.specs.Session.{Session, Value}
 use Rattle.fj_grammar.specs.FirstFault.{HasStatements, line_at, tokens_before}
@@ -31,12 +31,14 @@ pub data IsDoomed : List Token → Type 0 where
   ring : {p : ℕ} {vs : List (List ℕ)} {ts : List Token} → AreListed IsVariable ts vs → length vs ≡ 7 → IsDoomed (Word (codes "ring") ∷ Number p ∷ ts ++ Sign comma ∷ [])
   left : {F : List ℕ} → IsDoomed (Word (codes "ask") ∷ Word (codes "left") ∷ Word F ∷ Number 0 ∷ Sign slash ∷ [])
   isjump : {F : List ℕ} → IsDoomed (Word (codes "ask") ∷ Word (codes "isjump") ∷ Word F ∷ Number 0 ∷ Sign slash ∷ [])
+  named_left : {N F : List ℕ} → IsDoomed (Word (codes "let") ∷ Word N ∷ Sign equals ∷ Word (codes "left") ∷ Word F ∷ Number 0 ∷ Sign slash ∷ [])
 
 -- Such tokens, and a token that comes next all the same: a word after the comma, and a number after the `/`.
 pub data IsDoomedWith : List Token → Token → Type 0 where
   eighth : {p : ℕ} {vs : List (List ℕ)} {ts : List Token} {w : List ℕ} → AreListed IsVariable ts vs → length vs ≡ 7 → IsDoomedWith (Word (codes "ring") ∷ Number p ∷ ts ++ Sign comma ∷ []) (Word w)
   left_over : {F : List ℕ} {n : ℕ} → IsDoomedWith (Word (codes "ask") ∷ Word (codes "left") ∷ Word F ∷ Number 0 ∷ Sign slash ∷ []) (Number n)
   isjump_over : {F : List ℕ} {n : ℕ} → IsDoomedWith (Word (codes "ask") ∷ Word (codes "isjump") ∷ Word F ∷ Number 0 ∷ Sign slash ∷ []) (Number n)
+  named_left_over : {N F : List ℕ} {n : ℕ} → IsDoomedWith (Word (codes "let") ∷ Word N ∷ Sign equals ∷ Word (codes "left") ∷ Word F ∷ Number 0 ∷ Sign slash ∷ []) (Number n)
 
 -- The session that lines make, where there is a ring yet.
 abbrev pub MakeSession : List (List Token) → Option Session → Type 0

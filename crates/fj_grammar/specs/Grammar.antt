@@ -13,7 +13,8 @@ use Rattle.fj_text.specs.Token.{Token, Word, Number, Sign, minus, opening, closi
 use Rattle.fj_script.specs.declared.question.Question.{Question}
 use Rattle.fj_script.specs.declared.question.Question.TheVariants as questions
 use Rattle.fj_script.specs.Items.{comma, equals, slash}
-use Rattle.fj_script.specs.Session.{Session, Terms, Poly, Ideal, Point, ask, declare, is_nonconstant, new_session, terms_in}
+use Rattle.fj_script.specs.Question.{answers_ideal}
+use Rattle.fj_script.specs.Session.{Session, Terms, Value, Poly, Ideal, Point, Let, ask, declare, is_nonconstant, new_session, terms_in}
 use Rattle.fj_script.specs.Script.{lines}
 
 -- Items with a comma between each two.
@@ -55,9 +56,15 @@ pub record NamesNonconstant (S : Session) (name : List ℕ) (place : ℕ) : Type
   pub is : slice_get S.values place ≡ Some (name, Poly terms)
   pub nonconstant : IsTrue (is_nonconstant terms)
 
+-- An ideal by its generators, or the one that a question has as its answer.
+pub data IsIdeal : Value → Type 0 where
+  generated : {fs : List Terms} → IsIdeal (Ideal fs)
+  answered : {budget : ℕ} {q : Question} → IsIdeal (Let budget q)
+
 pub record NamesIdeal (S : Session) (name : List ℕ) (place : ℕ) : Type 0 where
-  pub generators : List Terms
-  pub is : slice_get S.values place ≡ Some (name, Ideal generators)
+  pub value : Value
+  pub is : slice_get S.values place ≡ Some (name, value)
+  pub ideal : IsIdeal value
 
 pub record NamesPoint (S : Session) (name : List ℕ) (place : ℕ) : Type 0 where
   pub coordinates : List ℕ
@@ -81,7 +88,7 @@ pub data IsRatio : List Token → Fraction → Type 0 where
   whole : {m : ℕ} {t : Fraction} → IsExponent m 1 t → IsRatio (Number m ∷ []) t
   quotient : {m n : ℕ} {t : Fraction} → IsExponent m n t → IsRatio (Number m ∷ Sign slash ∷ Number n ∷ []) t
 
--- What stands after `ask`. The name's kind decides whether a question is about an ideal or a point.
+-- What stands after `ask`, and after `let N =` where an ideal is the answer. The name's kind decides whether a question is about an ideal or a point.
 pub data IsQuestion (S : Session) : List Token → Question → Type 0 where
   parts : {e f : ℕ} {F : List ℕ} → e ≤ 12 → NamesPolynomial S F f → IsQuestion S (Word (codes "parts") ∷ Number e ∷ Word F ∷ []) (questions.Parts e f)
   basis : {j : ℕ} {J : List ℕ} → NamesIdeal S J j → IsQuestion S (Word (codes "basis") ∷ Word J ∷ []) (questions.Basis j)
@@ -114,10 +121,12 @@ pub data IsStatement (S : Session) : List Token → Session → Type 0 where
   budget : {b : ℕ} → 1 ≤ b → b ≤ 10000000 → IsStatement S (Word (codes "budget") ∷ Number b ∷ []) (record S { budget = b })
   poly : {name : List ℕ} {ts : List Token} {f : Terms} → IsNew S name → HasTerms S ts f → S.terms + length f ≤ 1000000
       → IsStatement S (Word (codes "poly") ∷ Word name ∷ Sign equals ∷ ts) (declare S name (Poly f) (length f))
-  ideal : {name : List ℕ} {ts : List Token} {fs : List Terms} → IsNew S name → AreListed (HasTerms S) ts fs → length fs ≤ 64 → S.terms + terms_in fs ≤ 1000000
+  ideal : {name : List ℕ} {ts : List Token} {fs : List Terms} → IsNew S name → AreListed (HasTerms S) ts fs → length fs ≤ 256 → S.terms + terms_in fs ≤ 1000000
       → IsStatement S (Word (codes "ideal") ∷ Word name ∷ Sign equals ∷ Sign opening ∷ ts ++ Sign closing ∷ []) (declare S name (Ideal fs) (terms_in fs))
   point : {name : List ℕ} {ts : List Token} {cs : List ℕ} → IsNew S name → AreListed (IsCoordinate S.prime) ts cs → length cs ≡ length S.variables
       → IsStatement S (Word (codes "point") ∷ Word name ∷ Sign equals ∷ Sign opening ∷ ts ++ Sign closing ∷ []) (declare S name (Point cs) 0)
+  named_result : {name : List ℕ} {ts : List Token} {q : Question} → IsNew S name → IsQuestion S ts q → IsTrue (answers_ideal q)
+      → IsStatement S (Word (codes "let") ∷ Word name ∷ Sign equals ∷ ts) (declare S name (Let S.budget q) 0)
   asked : {ts : List Token} {q : Question} → length S.asked < 4096 → IsQuestion S ts q → IsStatement S (Word (codes "ask") ∷ ts) (ask S q)
 
 -- Lines after the ring. A line without a token says nothing.

@@ -45,5 +45,5 @@ IsLargeIn S ts = IsLargeExpression (prime_field S.prime) (meaning_among S.variab
 pub data HasLarge (S : Session) : List Token → Type 0 where
   poly : {name : List ℕ} {ts : List Token} → IsNew S name → IsLargeIn S ts → HasLarge S (Word (codes "poly") ∷ Word name ∷ Sign equals ∷ ts)
   first_generator : {name : List ℕ} {ts : List Token} → IsNew S name → IsLargeIn S ts → HasLarge S (Word (codes "ideal") ∷ Word name ∷ Sign equals ∷ Sign opening ∷ ts)
-  generator : {name : List ℕ} {ts us : List Token} {fs : List Terms} → IsNew S name → AreListed (HasTerms S) ts fs → length fs < 64 → IsLargeIn S us
+  generator : {name : List ℕ} {ts us : List Token} {fs : List Terms} → IsNew S name → AreListed (HasTerms S) ts fs → length fs < 256 → IsLargeIn S us
       → HasLarge S (Word (codes "ideal") ∷ Word name ∷ Sign equals ∷ Sign opening ∷ ts ++ Sign comma ∷ us)

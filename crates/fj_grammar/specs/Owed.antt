@@ -1,7 +1,8 @@
 -- What is at the place of a Syntax, and what is not: the causes of other kinds.
 use Rattle.std.specs.Prelude.{◌≡◌, ℕ, zero, ◌+◌, List, [], ◌∷◌, ◌++◌, drop, Option, Some, None, codes}
-use Rattle.fj_text.specs.Token.{Token, Word, Number, Placed, tokens_from}
+use Rattle.fj_text.specs.Token.{Token, Word, Number, Sign, Placed, tokens_from}
 use Rattle.fj_script.specs.declared.fault.Fault.{Fault}
+use Rattle.fj_script.specs.Items.{equals}
 use Rattle.fj_script.specs.Session.{Session}
 use Rattle.fj_grammar.specs.Beginning.{CanGoOn, IsAlikeFor, IsDoomedWith}
 use Rattle.fj_grammar.specs.FirstFault.{line_at}
@@ -24,6 +25,7 @@ pub data NeedKeyword : List Token → Type 0 where
   statement : NeedKeyword []
   order : NeedKeyword (Word (codes "order") ∷ [])
   question : NeedKeyword (Word (codes "ask") ∷ [])
+  named_result : {name : List ℕ} → NeedKeyword (Word (codes "let") ∷ Word name ∷ Sign equals ∷ [])
 
 -- Tokens that differ in their numbers and names alone: in place of a number there may be another one, and in place of a name
 -- another one.

@@ -13,7 +13,7 @@ IsNameIn S w = Contains S.variables w ⊎ ((v : Value) × Contains S.values (w, 
 
 -- A word that begins a statement, but not the ring's.
 abbrev pub BeginsLater : List ℕ → Type 0
-BeginsLater w = (w ≡ codes "order") ⊎ (w ≡ codes "budget") ⊎ (w ≡ codes "poly") ⊎ (w ≡ codes "ideal") ⊎ (w ≡ codes "point") ⊎ (w ≡ codes "ask")
+BeginsLater w = (w ≡ codes "order") ⊎ (w ≡ codes "budget") ⊎ (w ≡ codes "poly") ⊎ (w ≡ codes "ideal") ⊎ (w ≡ codes "point") ⊎ (w ≡ codes "let") ⊎ (w ≡ codes "ask")
 
 -- A token that is wrong in this way after these tokens of its line: of the ring's line, where there is no session yet, and else
 -- of a line after this session.

@@ -8,7 +8,7 @@ use Rattle.fj_algebra.specs.Ideal as ring_ideal
 use Rattle.fj_algebra.proofs.Ring.{ring_laws}
 use Rattle.fj_theory.specs.Polynomial.{difference, Polynomial, IsPolynomial, sum, product, negation}
 use Rattle.fj_theory.specs.Ideal.{ArePolynomials, list_combination}
-use Rattle.fj_groebner.specs.Rows.{add_multiple, add_multiples, IsRow, AreRows}
+use Rattle.fj_groebner.specs.Rows.{add_multiple, add_multiples, product_of_rows, IsRow, AreRows}
 use Rattle.fj_theory.specs.MonomialOrder.{IsMonomialOrder}
 use Rattle.fj_groebner.specs.Division.{Sugared, polynomials_of, Division, IsDivision}
 use Rattle.fj_groebner.proofs.Division.{IsDivision-quotients, IsDivision-remainder}
@@ -143,6 +143,23 @@ module _ {F : Field} (L : IsField F) where
         long = ap suc rest.long;
         is = sym (ap₂ (sum F) (product_comm L (IsPolynomial-empty F) G ∙ product_empty L G) (sym rest.is) ∙ sum_empty L (IsPolynomial-empty F));
       }
+
+  -- Of a list G whose rows over N are given: the row over N of a combination of G, and the rows over N of combinations of G,
+  -- the product of the tables.
+  module _ {N : List Polynomial} (A : ArePolynomials F N) (G : List Polynomial) (rows : List (List Polynomial)) (all : AreRows F N G rows) where
+    pub IsRow-combination : {h : Polynomial} {fs : List Polynomial} → IsRow F G h fs → IsRow F N h (add_multiples F fs rows (replicate (length N) empty))
+    IsRow-combination {h} {fs} r =
+        let P = IsPolynomial-list_combination r.polynomials (rows_polynomials A G rows all) in
+        subst (λ f. IsRow F N f (add_multiples F fs rows (replicate (length N) empty)))
+        (sum_comm L (IsPolynomial-empty F) P ∙ sum_empty L P ∙ sym r.is)
+        (IsRow-add_multiples A fs G rows r.polynomials all (IsRow-zero N A))
+
+    pub AreRows-product : (H : List Polynomial) (factors : List (List Polynomial)) → AreRows F G H factors → AreRows F N H (product_of_rows F (length N) factors rows)
+    unfolding AreRows
+    AreRows-product [] [] there = tt
+    AreRows-product [] (fs ∷ factors) there = absurd there
+    AreRows-product (h ∷ H) [] there = absurd there
+    AreRows-product (h ∷ H) (fs ∷ factors) there = (IsRow-combination there.0, AreRows-product H factors there.1)
 
   -- The row of a multiple of one polynomial of the list.
   pub IsRow-one : {c : Polynomial} → IsPolynomial F c → (N : List Polynomial) (j : ℕ) → ArePolynomials F N → j < length N

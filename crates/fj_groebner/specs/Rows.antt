@@ -1,5 +1,6 @@
 -- Rows of cofactors: row i of a table gives the i-th polynomial of a list as the combination of another list.
-use Rattle.std.specs.Prelude.{◌≡◌, List, [], ◌∷◌, length}
+use Rattle.std.specs.Prelude.{◌≡◌, ℕ, List, [], ◌∷◌, length, map, replicate}
+use Rattle.std.specs.FinMap.{empty}
 use Rattle.fj_coeff.specs.Field.{Field}
 use Rattle.fj_theory.specs.Polynomial.{Polynomial, sum, product}
 use Rattle.fj_theory.specs.Ideal.{ArePolynomials, list_combination}
@@ -15,6 +16,10 @@ unfoldable pub add_multiples : Field → List Polynomial → List (List Polynomi
 add_multiples F [] rows first = first
 add_multiples F (f ∷ fs) [] first = first
 add_multiples F (f ∷ fs) (row ∷ rows) first = add_multiples F fs rows (add_multiple F f first row)
+
+-- The product of two tables, the rows of the second one n long: row i is the sum over k of factors_ik times row k.
+abbrev pub product_of_rows : Field → ℕ → List (List Polynomial) → List (List Polynomial) → List (List Polynomial)
+product_of_rows F n factors rows = map (λ fs. add_multiples F fs rows (replicate n empty)) factors
 
 -- The row has one polynomial for each of the list, and f is the combination of the list with it.
 pub record IsRow (F : Field) (L : List Polynomial) (f : Polynomial) (row : List Polynomial) : Type 0 where

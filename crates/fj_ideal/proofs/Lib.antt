@@ -1,3 +1,4 @@
+pub mod PlainTables
 pub mod ReducedBasis
 pub mod Lists
 pub mod Stops

@@ -2,3 +2,4 @@ pub mod Ideal
 pub mod Reduced
 pub mod Stop
 pub mod Lists
+pub mod Same

@@ -17,6 +17,8 @@ ghost use Rattle.fj_ideal.specs.Ideal.{IsIdeal, IsIdealOf, basis_of, of_itself};
 ghost use Rattle.fj_ideal.specs.Lists.{NoProduct, RunFor};
 ghost use Rattle.fj_ideal.specs.Stop.{StopsExactlyWith};
 
+mod same;
+
 use fj_basis::types::Basis;
 use fj_basis::{Stop, basis, copy_list, look_over};
 use fj_coeff::Coeff;

@@ -5,6 +5,7 @@ mod ideal;
 mod membership;
 mod operations;
 mod reduced;
+mod tables;
 
 pub use ideal::Ideal;
 pub use operations::kept_pair;

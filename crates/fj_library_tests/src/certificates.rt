@@ -60,6 +60,32 @@ fn basis(rt: HostRuntime) -> Result<(), AllocError> {
     Ok(())
 }
 
+// Over GF(p), x is the product of 2*x and (p + 1)/2. GF(37) is no coefficient field.
+#[test]
+fn halves(rt: HostRuntime) -> Result<(), AllocError> {
+    for (p, half, wanted) in [
+        (17, 9, true),
+        (17, 7, false),
+        (19, 10, true),
+        (23, 12, true),
+        (29, 15, true),
+        (31, 16, true),
+        (31, 9, false),
+        (37, 19, false),
+    ] {
+        let cert = Cert::Basis {
+            p,
+            order: OrderName::Lex,
+            given: list(&rt, &[&[(1, 0, 2)]])?,
+            found: list(&rt, &[&[(1, 0, 1)]])?,
+            down: table(&rt, &[&[&[(0, 0, half)]]])?,
+            up: table(&rt, &[&[&[(0, 0, 2)]]])?,
+        };
+        assert_eq!(rt; holds(rt.alloc(), &cert)?, wanted);
+    }
+    Ok(())
+}
+
 // Over GF(5), (x, y) and (x + y, y) are one ideal, since x = (x + y) + 4*y.
 #[test]
 fn same(rt: HostRuntime) -> Result<(), AllocError> {
@@ -82,7 +108,8 @@ fn same(rt: HostRuntime) -> Result<(), AllocError> {
     Ok(())
 }
 
-// Over GF(3), 2*x^4*y + x*y + y^3 = y^3 + x*y*(2*x + 1)^3. Over GF(13) the multiples of x^(2^41*13^12) cancel.
+// Over GF(3), 2*x^4*y + x*y + y^3 = y^3 + x*y*(2*x + 1)^3. Over GF(17), 2 + 5*x^17*y = 2^17 + y*(5*x)^17. Over
+// GF(p) for p = 13 and p = 31 the multiples of x^(2^41*p^12) cancel.
 #[test]
 fn root(rt: HostRuntime) -> Result<(), AllocError> {
     let one: &[Entry] = &[(0, 0, 1)];
@@ -93,6 +120,10 @@ fn root(rt: HostRuntime) -> Result<(), AllocError> {
     let none: &[Entry] = &[];
     let high: &[Entry] = &[(1 << 41, 0, 1)];
     let opposite: &[Entry] = &[(1 << 41, 0, 12)];
+    let negative: &[Entry] = &[(1 << 41, 0, 30)];
+    let two: &[Entry] = &[(0, 0, 2)];
+    let five_x: &[Entry] = &[(1, 0, 5)];
+    let sum: &[Entry] = &[(17, 1, 5), (0, 0, 2)];
     for (p, e, member, residue, first, second, wanted) in [
         (3, 1, whole, xy, y, line, true),
         (3, 1, whole, xy, line, y, false),
@@ -100,6 +131,10 @@ fn root(rt: HostRuntime) -> Result<(), AllocError> {
         (3, 13, none, one, none, none, false),
         (13, 12, none, one, high, opposite, true),
         (13, 12, none, one, high, high, false),
+        (17, 1, sum, y, two, five_x, true),
+        (19, 1, sum, y, two, five_x, false),
+        (31, 12, none, one, high, negative, true),
+        (31, 12, none, one, high, opposite, false),
     ] {
         let cert = Cert::Root {
             p,

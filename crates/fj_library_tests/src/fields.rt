@@ -29,6 +29,11 @@ fn each_prime(rt: HostRuntime) {
     agrees::<Fp<7>>(&rt, (3, 5, 1, 4, 1, 3));
     agrees::<Fp<11>>(&rt, (10, 7, 6, 1, 4, 8));
     agrees::<Fp<13>>(&rt, (12, 5, 4, 1, 8, 8));
+    agrees::<Fp<17>>(&rt, (16, 5, 4, 1, 12, 7));
+    agrees::<Fp<19>>(&rt, (18, 7, 6, 1, 12, 11));
+    agrees::<Fp<23>>(&rt, (20, 9, 6, 3, 19, 18));
+    agrees::<Fp<29>>(&rt, (28, 12, 11, 1, 17, 17));
+    agrees::<Fp<31>>(&rt, (30, 11, 10, 1, 20, 17));
 }
 
 // Tells the size of a field.
@@ -53,7 +58,7 @@ fn table(rt: HostRuntime) {
         assert!(rt; is_prime(p));
         assert_eq!(rt; over_prime_field(p, &mut Size), p);
     }
-    for n in [0, 1, 4, 9, 15, 17] {
+    for n in [0, 1, 4, 9, 15, 25, 37] {
         assert!(rt; !is_prime(n));
     }
 }

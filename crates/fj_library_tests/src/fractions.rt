@@ -98,6 +98,11 @@ fn expansions(rt: HostRuntime) -> Result<(), Fail> {
         (5, 4, 5, &[3], &[4]),
         (7, 5, 6, &[], &[5]),
         (13, 1, 1, &[], &[12]),
+        (17, 14, 17, &[13], &[16]),
+        (19, 1, 3, &[], &[6]),
+        (23, 2, 3, &[], &[15, 7]),
+        (29, 5, 6, &[], &[24, 4]),
+        (31, 1, 62, &[0], &[15]),
     ];
     for (p, num, den, pre, period) in rows {
         expands(&rt, rt.alloc(), *p, &ratio(&rt, *num, *den), pre, period)?;
@@ -128,6 +133,28 @@ fn small_lists(rt: HostRuntime) -> Result<(), Fail> {
     lists(&rt, alloc, 5, 1, &[(1, 4), (1, 2), (3, 4), (1, 1)])?;
     let sixths = [(1, 6), (1, 3), (1, 2), (2, 3), (5, 6), (1, 1)];
     lists(&rt, alloc, 7, 1, &sixths)
+}
+
+// So many candidates over GF(p) at 3.
+fn has_count(rt: &impl Abort, alloc: Global, p: u64, count: usize) -> Result<(), Fail>
+    requires { p ^ 3 ≤ 65536 }
+{
+    assert!(rt; is_prime(p));
+    let list = candidates(alloc, p, 3)?;
+    assert_eq!(rt; list.len(), count);
+    Ok(())
+}
+
+// The multiples of 1/(p^3 - 1), 1/(p^3 - p) and 1/(p^3 - p^2), of which p - 1 are in all three and p^2 - p in the last two:
+// 3*p^3 - 2*p^2 - p.
+#[test]
+fn lists_of_great_primes(rt: HostRuntime) -> Result<(), Fail> {
+    let alloc = rt.alloc();
+    has_count(&rt, alloc, 17, 14_144)?;
+    has_count(&rt, alloc, 19, 19_836)?;
+    has_count(&rt, alloc, 23, 35_420)?;
+    has_count(&rt, alloc, 29, 71_456)?;
+    has_count(&rt, alloc, 31, 87_420)
 }
 
 // The longest list.

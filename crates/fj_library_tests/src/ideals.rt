@@ -40,7 +40,8 @@ fn has_plain_terms(rt: &impl Abort, f: &PlainPoly, wanted: Terms) {
     }
 }
 
-fn have_plain_terms(rt: &impl Abort, list: &PlainList, wanted: &[Terms]) {
+// The plain polynomials of the list have these terms.
+pub fn have_plain_terms(rt: &impl Abort, list: &PlainList, wanted: &[Terms]) {
     assert_eq!(rt; list.len(), wanted.len());
     for (i, terms) in wanted.iter().enumerate() {
         assert!(rt; i < list.len());

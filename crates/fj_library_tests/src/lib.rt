@@ -17,6 +17,8 @@ mod frobenius;
 #[cfg(test)]
 mod ideals;
 #[cfg(test)]
+mod made_certificates;
+#[cfg(test)]
 mod monomials;
 #[cfg(test)]
 mod plain_polynomials;

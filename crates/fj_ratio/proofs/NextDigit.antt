@@ -8,7 +8,7 @@ use Rattle.fj_coeff.specs.PrimeFieldLaws.{prime_bounds}
 -- What division of p*r - 1 by n gives, for a remainder r in (0, n].
 pub record IsStep (p r n : ℕ) : Type 0 where
   pub positive : 0 < p * r
-  pub small : p * r < 2 ^ 20
+  pub small : p * r < 2 ^ 21
   pub below : (p * r - 1) / n * n < p * r
   pub next : p * r ≤ (p * r - 1) / n * n + n
   pub digit : (p * r - 1) / n ≤ greatest_prime

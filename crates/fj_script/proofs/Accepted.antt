@@ -23,7 +23,7 @@ use Rattle.fj_coeff.specs.Field.{is_prime}
 use Rattle.fj_coeff.specs.PrimeTest.{prime_listed}
 use Rattle.fj_script.proofs.AcceptedArguments.{IsSoundQuestion}
 use Rattle.fj_script.proofs.AcceptedQuestions.{question_sound}
-use Rattle.fj_script.proofs.AcceptedDeclarations.{IsSound, ask_sound, at_end_sound, ideal_sound, point_sound, poly_sound}
+use Rattle.fj_script.proofs.AcceptedDeclarations.{IsSound, ask_sound, at_end_sound, ideal_sound, named_result_sound, point_sound, poly_sound}
 use Rattle.fj_script.proofs.AcceptedYields.{Yields, Anything, yielded, yields_anything, yields_if, yields_option, yields_then}
 
 prime_read : (s : State) → Yields (λ p. Contains primes p.0) (rings.prime s)
@@ -46,7 +46,7 @@ unfolding rings.ring
 ring_sound s =
     yields_then (λ p. Contains primes p.0) IsSound (rings.prime s) _ (prime_read s)
     (λ p h. yields_then Anything IsSound (listed rings.variable p.1) _ (yields_anything _)
-    (λ vs _. let new : IsSound (new_session p.0 vs.0) = record { prime = h; printing = record { named = grevlex_named; positive = omega arith; low = omega arith }; values = All-nil _; asked = All-nil _ } in at_end_sound (new_session p.0 vs.0) new (new_session p.0 vs.0, vs.1) new))
+    (λ vs _. let new : IsSound (new_session p.0 vs.0) = record { prime = h; printing = record { named = grevlex_named; positive = omega arith; low = omega arith }; values = All-nil _; earlier = λ i v e. absurd (none-some _ e); asked = All-nil _ } in at_end_sound (new_session p.0 vs.0) new (new_session p.0 vs.0, vs.1) new))
 
 first_sound : (k : Option Keyword) (s : State) → Yields IsSound (statements.first k s)
 unfolding statements.first
@@ -56,6 +56,7 @@ first_sound (Some keywords.Budget) s = tt
 first_sound (Some keywords.Poly) s = tt
 first_sound (Some keywords.Ideal) s = tt
 first_sound (Some keywords.Point) s = tt
+first_sound (Some keywords.Let) s = tt
 first_sound (Some keywords.Ask) s = tt
 first_sound None s = tt
 
@@ -75,13 +76,13 @@ module _ (S : Session) (H : IsSound S) where
   order_sound s =
       yields_then Anything IsSound (word s) _ (yields_anything _)
       (λ w _. yields_option IsSound (statements.order_of w.0) _ _
-      (λ name e. at_end_sound S H (record S { order = name }, w.1) (record { prime = H.prime; printing = record { named = order_named w.0 name e; positive = H.printing.positive; low = H.printing.low }; values = H.values; asked = H.asked })) tt)
+      (λ name e. at_end_sound S H (record S { order = name }, w.1) (record { prime = H.prime; printing = record { named = order_named w.0 name e; positive = H.printing.positive; low = H.printing.low }; values = H.values; earlier = H.earlier; asked = H.asked })) tt)
 
   budget_sound : (s : State) → Yields IsSound (statements.budget S s)
   unfolding statements.budget
   budget_sound s =
       yields_then (λ b. (1 ≤ b.0) × (b.0 ≤ 10000000)) IsSound (numbers.within 1 10000000 s) _ (within_limits 1 10000000 s)
-      (λ b k. at_end_sound S H (record S { budget = b.0 }, b.1) (record { prime = H.prime; printing = record { named = H.printing.named; positive = k.0; low = k.1 }; values = H.values; asked = H.asked }))
+      (λ b k. at_end_sound S H (record S { budget = b.0 }, b.1) (record { prime = H.prime; printing = record { named = H.printing.named; positive = k.0; low = k.1 }; values = H.values; earlier = H.earlier; asked = H.asked }))
 
   asking_sound : (s : State) → Yields IsSound (statements.asking S s)
   unfolding statements.asking
@@ -97,6 +98,7 @@ module _ (S : Session) (H : IsSound S) where
   later_sound (Some keywords.Poly) s = poly_sound S H s
   later_sound (Some keywords.Ideal) s = ideal_sound S H s
   later_sound (Some keywords.Point) s = point_sound S H s
+  later_sound (Some keywords.Let) s = named_result_sound S H s
   later_sound (Some keywords.Ask) s = asking_sound s
   later_sound None s = tt
 

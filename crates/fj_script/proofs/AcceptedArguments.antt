@@ -1,6 +1,6 @@
 -- What is known of a question of an accepted session: its names stand for values of the kinds that it takes, and its
 -- numbers keep their limits.
-use Rattle.std.proofs.Common.{◌≡◌, ℕ, ◌*◌, ◌^◌, ◌<◌, ◌≤◌, Bool, true, false, cond, List, [], ◌∷◌, ◌++◌, length-append, Option, Some, None, refl, ap, ◌∙◌, arith}
+use Rattle.std.proofs.Common.{◌≡◌, ℕ, ◌*◌, ◌^◌, ◌<◌, ◌≤◌, ◌⊎◌, inl, inr, Bool, true, false, cond, List, [], ◌∷◌, ◌++◌, length-append, Option, Some, None, refl, ap, ◌∙◌, arith}
 use Rattle.std.specs.List.{slice_get}
 use Rattle.std.proofs.lemmas.List.{get_or_append_left}
 use Rattle.std.proofs.lemmas.Option.{get_or_from_slice_get, slice_get-get_or, slice_get_within}
@@ -11,7 +11,7 @@ use Rattle.fj_script.specs.declared.question.Question.TheVariants as questions
 use Rattle.fj_script.specs.declared.value.Kind.{Kind}
 use Rattle.fj_script.specs.declared.value.Kind.TheVariants as kinds
 use Rattle.fj_script.specs.Names as names
-use Rattle.fj_script.specs.Session.{Terms, Value, Poly, Ideal, Point, is_nonconstant, kind}
+use Rattle.fj_script.specs.Session.{Terms, Value, Poly, Ideal, Point, Let, is_nonconstant, kind}
 
 -- The name at this place stands for a value of a kind that is taken.
 pub record Names (taken : Kind → Option FaultKind) (values : List (List ℕ × Value)) (place : ℕ) : Type 0 where
@@ -106,6 +106,7 @@ pub is_poly : (v : Value) → names.as_polynomial (kind v) ≡ None → (f : Ter
 is_poly (Poly f) h = (f, refl)
 is_poly (Ideal fs) h = absurd cc
 is_poly (Point cs) h = absurd cc
+is_poly (Let b q) h = absurd cc
 
 pub is_nonconstant_poly : (v : Value) → names.as_nonconstant (kind v) ≡ None → (f : Terms) × (v ≡ Poly f) × (is_nonconstant f ≡ true)
 is_nonconstant_poly (Poly f) h = (f, refl, by (is_nonconstant f) h)
@@ -115,15 +116,17 @@ is_nonconstant_poly (Poly f) h = (f, refl, by (is_nonconstant f) h)
     by false h = absurd cc
 is_nonconstant_poly (Ideal fs) h = absurd cc
 is_nonconstant_poly (Point cs) h = absurd cc
+is_nonconstant_poly (Let b q) h = absurd cc
 
-pub is_ideal : (v : Value) → names.as_ideal (kind v) ≡ None → (fs : List Terms) × (v ≡ Ideal fs)
+pub is_ideal : (v : Value) → names.as_ideal (kind v) ≡ None → ((fs : List Terms) × (v ≡ Ideal fs)) ⊎ ((budget : ℕ) × (q : Question) × (v ≡ Let budget q))
 is_ideal (Poly f) h = absurd (by (is_nonconstant f) h)
   where
     by : (b : Bool) → names.as_ideal (cond b kinds.Nonconstant kinds.Constant) ≡ None → ⊥
     by true h = cc
     by false h = cc
-is_ideal (Ideal fs) h = (fs, refl)
+is_ideal (Ideal fs) h = inl (fs, refl)
 is_ideal (Point cs) h = absurd cc
+is_ideal (Let b q) h = inr (b, q, refl)
 
 pub is_point : (v : Value) → names.as_point (kind v) ≡ None → (cs : List ℕ) × (v ≡ Point cs)
 is_point (Poly f) h = absurd (by (is_nonconstant f) h)
@@ -133,3 +136,4 @@ is_point (Poly f) h = absurd (by (is_nonconstant f) h)
     by false h = cc
 is_point (Ideal fs) h = absurd cc
 is_point (Point cs) h = (cs, refl)
+is_point (Let b q) h = absurd cc

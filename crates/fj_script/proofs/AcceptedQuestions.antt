@@ -1,5 +1,5 @@
 -- Questions that are read: the arguments of each are of the kinds and within the limits that it takes.
-use Rattle.std.proofs.Common.{◌≡◌, ℕ, ◌≤◌, List, Option, Some, None, Ok, Err, refl, sym, ap, ◌∙◌}
+use Rattle.std.proofs.Common.{◌≡◌, ℕ, ◌≤◌, Bool, true, false, cond, List, Option, Some, None, Ok, Err, refl, sym, ap, ◌∙◌}
 use Rattle.std.specs.List.{slice_get}
 use Rattle.std.specs.Option.{option_and_then, option_map, option_map_or}
 use Rattle.std.proofs.lemmas.Option.{none-some, same_Some}
@@ -32,7 +32,20 @@ use Rattle.fj_script.specs.Question.{Target}
 use Rattle.fj_script.specs.Session.{Session, Value, kind}
 use Rattle.fj_script.proofs.AcceptedArguments.{IsExponent, IsLevel, IsSoundQuestion, Names, NamesIdeal, NamesNonconstant, NamesPoint, NamesPoly}
 use Rattle.fj_script.proofs.AcceptedNumbers.{exponent_limits, level_limits, ratio_limits}
-use Rattle.fj_script.proofs.AcceptedYields.{Yields, Anything, yields_anything, yields_option, yields_then}
+use Rattle.fj_script.proofs.AcceptedYields.{Yields, Anything, yields_anything, yields_both, yields_option, yields_then}
+
+-- The word of a question that has an ideal as its answer is the word of a question.
+pub ideal_ask : (w : List ℕ) (a : Ask) → question.ideal_ask_of w ≡ Some a → (question.ask_of w ≡ Some a) × (question.asks_ideal a ≡ true)
+unfolding question.ideal_ask_of
+ideal_ask w a = by (question.ask_of w)
+  where
+    at : (b : Ask) (c : Bool) → question.asks_ideal b ≡ c → cond c (Some b) None ≡ Some a → (Some b ≡ Some a) × (question.asks_ideal a ≡ true)
+    at b true is e = (e, ap question.asks_ideal (sym (same_Some b a e)) ∙ is)
+    at b false is e = absurd (none-some _ e)
+
+    by : (o : Option Ask) → option_and_then (λ b. cond (question.asks_ideal b) (Some b) None) o ≡ Some a → (o ≡ Some a) × (question.asks_ideal a ≡ true)
+    by None e = absurd (none-some _ e)
+    by (Some b) e = at b (question.asks_ideal b) refl e
 
 module _ (S : Session) where
   -- A declared name has the kind of its value.
@@ -205,7 +218,72 @@ module _ (S : Session) where
       (λ e. polynomial_found e.1) (λ u. ideal_found u.1) (λ e u j small h k. (small, h, k))
 
   pub question_sound : (s : State) → Yields Sound (question.question_at S s)
-  unfolding question.question_at
+  unfolding question.question_at question.question_by
   question_sound s =
       yields_then Anything Sound (word s) _ (yields_anything _)
       (λ w _. yields_option Sound (question.ask_of w.0) _ _ (λ a _. arguments_sound a w.1) tt)
+
+  -- ---- questions that have an ideal as their answer
+
+  abbrev Answers : Question × State → Type 0
+  Answers q = question.answers_ideal q.0 ≡ true
+
+  one_answers : (which : OneIdeal) (s : State) → Yields Answers (question.of_ideal which S s)
+  unfolding question.of_ideal
+  one_answers which s = yields_then Anything Answers (names.ideal S s) _ (yields_anything _) (λ j _. by which j.0)
+    where
+      by : (which : OneIdeal) (j : ℕ) → question.answers_ideal (question.about_ideal which j) ≡ true
+      by ones.Basis j = refl
+      by ones.Split j = refl
+
+  two_answer : (which : TwoIdeals) → question.asks_ideal (asks.TwoIdeals which) ≡ true → (s : State) → Yields Answers (question.of_two_ideals which S s)
+  unfolding question.of_two_ideals
+  two_answer which e s = yields_then Anything Answers (names.ideal S s) _ (yields_anything _) (λ j _. yields_then Anything Answers (names.ideal S j.1) _ (yields_anything _) (λ k _. by which e j.0 k.0))
+    where
+      by : (which : TwoIdeals) → question.asks_ideal (asks.TwoIdeals which) ≡ true → (j k : ℕ) → question.answers_ideal (question.about_two_ideals which j k) ≡ true
+      by twos.Same e j k = absurd cc
+      by twos.Sum e j k = refl
+      by twos.Product e j k = refl
+      by twos.Meet e j k = refl
+      by twos.Colon e j k = refl
+
+  frobenius_answers : (which : Frobenius) (s : State) → Yields Answers (question.of_frobenius which S s)
+  unfolding question.of_frobenius
+  frobenius_answers which s = yields_then Anything Answers (exponent s) _ (yields_anything _) (λ e _. yields_then Anything Answers (names.ideal S e.1) _ (yields_anything _) (λ j _. by which e.0 j.0))
+    where
+      by : (which : Frobenius) (e j : ℕ) → question.answers_ideal (question.about_frobenius which e j) ≡ true
+      by frobenius.Power e j = refl
+      by frobenius.Root e j = refl
+
+  test_answers : (which : TestIdeal) → question.asks_ideal (asks.TestIdeal which) ≡ true → (s : State) → Yields Answers (question.of_test_ideal which S s)
+  unfolding question.of_test_ideal
+  test_answers which e s =
+      yields_then Anything Answers (names.nonconstant S s) _ (yields_anything _)
+      (λ f _. yields_then Anything Answers (ratio (question.is_above_zero which) f.1) _ (yields_anything _) (λ t _. by which e f.0 t.0))
+    where
+      by : (which : TestIdeal) → question.asks_ideal (asks.TestIdeal which) ≡ true → (f : ℕ) (t : Fraction) → question.answers_ideal (question.about_test_ideal which f t) ≡ true
+      by tests.Test e f t = refl
+      by tests.Left e f t = refl
+      by tests.IsJump e f t = absurd cc
+      by tests.Regular e f t = absurd cc
+
+  pub arguments_answer : (a : Ask) → question.asks_ideal a ≡ true → (s : State) → Yields Answers (question.arguments a S s)
+  unfolding question.arguments
+  arguments_answer (asks.OneIdeal which) e s = one_answers which s
+  arguments_answer (asks.TwoIdeals which) e s = two_answer which e s
+  arguments_answer (asks.Frobenius which) e s = frobenius_answers which s
+  arguments_answer (asks.TestIdeal which) e s = test_answers which e s
+  arguments_answer asks.Parts e s = absurd cc
+  arguments_answer asks.Member e s = absurd cc
+  arguments_answer asks.Jumps e s = absurd cc
+  arguments_answer asks.Nu e s = absurd cc
+  arguments_answer asks.Threshold e s = absurd cc
+  arguments_answer asks.Pure e s = absurd cc
+  arguments_answer asks.Compatible e s = absurd cc
+
+  pub ideal_question_sound : (s : State) → Yields (λ q. IsSoundQuestion S.prime S.values q.0 × (question.answers_ideal q.0 ≡ true)) (question.ideal_question_at S s)
+  unfolding question.ideal_question_at question.question_by
+  ideal_question_sound s =
+      let Both : Question × State → Type 0 = λ q. IsSoundQuestion S.prime S.values q.0 × (question.answers_ideal q.0 ≡ true) in
+      yields_then Anything Both (word s) _ (yields_anything _)
+      (λ w _. yields_option Both (question.ideal_ask_of w.0) _ _ (λ a e. yields_both Sound Answers (question.arguments a S w.1) (arguments_sound a w.1) (arguments_answer a (ideal_ask w.0 a e).1 w.1)) tt)

@@ -31,6 +31,10 @@ pub yields_then : {A B E : Type 0} (P : A → Type 0) (Q : B → Type 0) (r : Re
 yields_then P Q (Ok x) f h k = k x h
 yields_then P Q (Err e) f h k = tt
 
+pub yields_both : {A E : Type 0} (P Q : A → Type 0) (r : Result A E) → Yields P r → Yields Q r → Yields (λ x. P x × Q x) r
+yields_both P Q (Ok x) h k = (h, k)
+yields_both P Q (Err e) h k = tt
+
 pub yields_weaker : {A E : Type 0} (P Q : A → Type 0) (r : Result A E) → Yields P r → ((x : A) → P x → Q x) → Yields Q r
 yields_weaker P Q (Ok x) h k = k x h
 yields_weaker P Q (Err e) h k = tt

@@ -25,7 +25,7 @@ use Rattle.fj_script.specs.Declaration as declaration
 use Rattle.fj_script.specs.Declaration.{coordinate, counted, expression, generator, name_equals, of_text}
 use Rattle.fj_script.specs.Numbers.{exponent, level, lowest, ratio, ratio_of, within}
 use Rattle.fj_script.specs.Question as question
-use Rattle.fj_script.specs.Question.{arguments, question_at, target_at, target_of}
+use Rattle.fj_script.specs.Question.{arguments, ask_of, ideal_ask_of, ideal_question_at, question_at, question_by, target_at, target_of}
 use Rattle.fj_script.specs.Statement.{asking, budget, first, later, line, order, statement, statement_of}
 use Rattle.fj_script.proofs.Places.{IsNear, Near, Stands, at_next, at_sign, choose, expression_near, faulty, fine, unexpected_near}
 use Rattle.fj_script.proofs.Tokens.{line_near}
@@ -249,9 +249,21 @@ module _ (n : ℕ) where
   arguments_ends asks.Compatible S s near =
       bind _ _ (exponent_ends s near) (λ e now. bind _ _ (polynomial_ends S e.1 now) (λ u behind. bind _ _ (ideal_named_ends S u.1 behind) (λ j last. fine last)))
 
+  question_by_ends : (named : List ℕ → Option Ask) (S : Session) (s : State) → IsNear n s → Gives (question_by named S s)
+  unfolding question_by
+  question_by_ends named S s near = bind _ _ (word_ends s near) (λ w now. some_or _ _ _ (λ ask. arguments_ends ask S w.1 now) (faulty now.start))
+
   question_ends : (S : Session) (s : State) → IsNear n s → Gives (question_at S s)
   unfolding question_at
-  question_ends S s near = bind _ _ (word_ends s near) (λ w now. some_or _ _ _ (λ ask. arguments_ends ask S w.1 now) (faulty now.start))
+  question_ends S s near = question_by_ends ask_of S s near
+
+  ideal_question_ends : (S : Session) (s : State) → IsNear n s → Gives (ideal_question_at S s)
+  unfolding ideal_question_at
+  ideal_question_ends S s near = question_by_ends ideal_ask_of S s near
+
+  named_result_ends : (S : Session) (s : State) → IsNear n s → Stops (declaration.named_result S s)
+  unfolding declaration.named_result
+  named_result_ends S s near = bind _ _ (name_equals_ends S s near) (λ name now. bind _ _ (ideal_question_ends S name.1 now) (λ q last. at_end_ends _ q.1 last))
 
   order_ends : (S : Session) (s : State) → IsNear n s → Stops (order S s)
   unfolding order
@@ -273,6 +285,7 @@ module _ (n : ℕ) where
   statement_of_ends None (Some keywords.Poly) s near = faulty near.start
   statement_of_ends None (Some keywords.Ideal) s near = faulty near.start
   statement_of_ends None (Some keywords.Point) s near = faulty near.start
+  statement_of_ends None (Some keywords.Let) s near = faulty near.start
   statement_of_ends None (Some keywords.Ask) s near = faulty near.start
   statement_of_ends None None s near = faulty near.start
   statement_of_ends (Some S) (Some keywords.Ring) s near = faulty near.start
@@ -281,6 +294,7 @@ module _ (n : ℕ) where
   statement_of_ends (Some S) (Some keywords.Poly) s near = poly_ends S s near
   statement_of_ends (Some S) (Some keywords.Ideal) s near = ideal_ends S s near
   statement_of_ends (Some S) (Some keywords.Point) s near = point_ends S s near
+  statement_of_ends (Some S) (Some keywords.Let) s near = named_result_ends S s near
   statement_of_ends (Some S) (Some keywords.Ask) s near = asking_ends S s near
   statement_of_ends (Some S) None s near = faulty near.start
 

@@ -11,8 +11,9 @@ use Rattle.fj_script.specs.declared.fault.FaultKind.TheVariants as kinds
 use Rattle.fj_script.specs.declared.fault.LineFault.{LineFault}
 use Rattle.fj_script.specs.LineFault.{Answer, ◌>>=◌, fault_at, fault_of}
 use Rattle.fj_script.specs.Items.{at_end, enclosed, equals, listed, narrow, sign}
-use Rattle.fj_script.specs.Session.{Session, Terms, Poly, Ideal, Point, declare, terms_in}
+use Rattle.fj_script.specs.Session.{Session, Terms, Poly, Ideal, Point, Let, declare, terms_in}
 use Rattle.fj_script.specs.Names.{meaning, new_name}
+use Rattle.fj_script.specs.Question.{ideal_question_at}
 
 -- What an expression answers, in a line of a session.
 abbrev pub of_text : text.Answer Polynomial → Answer Terms
@@ -43,9 +44,9 @@ poly S s = do
   f ← counted S S.terms name.1
   at_end (declare S name.0 (Poly f.0) (length f.0), f.1)
 
--- A generator, at most the 64th. A comma before a 65th is the fault.
+-- A generator, at most the 256th. A comma before a 257th is the fault.
 unfoldable pub generator : Session → List Terms → State → Answer Terms
-generator S fs s = if nat_le 64 (length fs) then Err (fault_at kinds.Many s) else counted S (S.terms + terms_in fs) s
+generator S fs s = if nat_le 256 (length fs) then Err (fault_at kinds.Many s) else counted S (S.terms + terms_in fs) s
 
 -- `ideal N = (expr, expr, ..)`
 unfoldable pub ideal : Session → State → Result Session LineFault
@@ -73,3 +74,10 @@ point S s = do
   cs ← enclosed (listed (coordinate S)) name.1
   if nat_lt (length cs.0) (length S.variables) then Err (fault_at kinds.Arity cs.1)
       else at_end (declare S name.0 (Point cs.0) 0, cs.1)
+
+-- `let N = ` and a question that has an ideal as its answer, with the turn budget that stands here
+unfoldable pub named_result : Session → State → Result Session LineFault
+named_result S s = do
+  name ← name_equals S s
+  q ← ideal_question_at S name.1
+  at_end (declare S name.0 (Let S.budget q.0) 0, q.1)

@@ -1,7 +1,7 @@
--- Questions: the word behind `ask`, and the arguments that it takes.
+-- Questions: the word that names one, and the arguments that it takes.
 use Rattle.std.specs.Prelude.{ℕ, Bool, true, false, if◌then◌else◌, List, Ok, Err, Some, None, codes}
 use Rattle.std.specs.declared.option.Option.{Option}
-use Rattle.std.specs.Option.{option_map_or}
+use Rattle.std.specs.Option.{option_and_then, option_map_or}
 use Rattle.std.specs.Str.{bytes_eq}
 use Rattle.fj_theory.specs.Fraction.{Fraction}
 use Rattle.fj_text.specs.State.{State, next}
@@ -52,6 +52,32 @@ ask_of w =
     else (if bytes_eq w (codes "split") then Some (asks.OneIdeal ones.Split)
     else (if bytes_eq w (codes "compatible") then Some asks.Compatible
     else None)))))))))))))))))))
+
+-- The words of the questions that have an ideal as their answer.
+abbrev pub asks_ideal : Ask → Bool
+asks_ideal (asks.OneIdeal ones.Basis) = true
+asks_ideal (asks.OneIdeal ones.Split) = true
+asks_ideal (asks.TwoIdeals twos.Same) = false
+asks_ideal (asks.TwoIdeals twos.Sum) = true
+asks_ideal (asks.TwoIdeals twos.Product) = true
+asks_ideal (asks.TwoIdeals twos.Meet) = true
+asks_ideal (asks.TwoIdeals twos.Colon) = true
+asks_ideal (asks.Frobenius frobenius.Power) = true
+asks_ideal (asks.Frobenius frobenius.Root) = true
+asks_ideal (asks.TestIdeal tests.Test) = true
+asks_ideal (asks.TestIdeal tests.Left) = true
+asks_ideal (asks.TestIdeal tests.IsJump) = false
+asks_ideal (asks.TestIdeal tests.Regular) = false
+asks_ideal asks.Parts = false
+asks_ideal asks.Member = false
+asks_ideal asks.Jumps = false
+asks_ideal asks.Nu = false
+asks_ideal asks.Threshold = false
+asks_ideal asks.Pure = false
+asks_ideal asks.Compatible = false
+
+unfoldable pub ideal_ask_of : List ℕ → Option Ask
+ideal_ask_of w = option_and_then (λ a. if asks_ideal a then Some a else None) (ask_of w)
 
 -- `e F`
 unfoldable pub parts : Session → State → Answer Question
@@ -197,8 +223,40 @@ arguments asks.Threshold S s = threshold S s
 arguments asks.Pure S s = pure S s
 arguments asks.Compatible S s = compatible S s
 
--- A question, from the word that names it.
-unfoldable pub question_at : Session → State → Answer Question
-question_at S s = do
+-- A question, from the word that names it, which is one of a list.
+unfoldable pub question_by : (List ℕ → Option Ask) → Session → State → Answer Question
+question_by named S s = do
   w ← word s
-  option_map_or (λ a. arguments a S w.1) (ask_of w.0) (Err (fault_at faults.Syntax w.1))
+  option_map_or (λ a. arguments a S w.1) (named w.0) (Err (fault_at faults.Syntax w.1))
+
+unfoldable pub question_at : Session → State → Answer Question
+question_at S s = question_by ask_of S s
+
+-- A question that has an ideal as its answer.
+unfoldable pub ideal_question_at : Session → State → Answer Question
+ideal_question_at S s = question_by ideal_ask_of S s
+
+-- The questions that have an ideal as their answer.
+abbrev pub answers_ideal : Question → Bool
+answers_ideal (questions.Parts e f) = false
+answers_ideal (questions.Basis j) = true
+answers_ideal (questions.Member f j) = false
+answers_ideal (questions.Same j k) = false
+answers_ideal (questions.Sum j k) = true
+answers_ideal (questions.Product j k) = true
+answers_ideal (questions.Meet j k) = true
+answers_ideal (questions.Colon j k) = true
+answers_ideal (questions.Power e j) = true
+answers_ideal (questions.Root e j) = true
+answers_ideal (questions.Test f t) = true
+answers_ideal (questions.Left f t) = true
+answers_ideal (questions.IsJump f t) = false
+answers_ideal (questions.Regular f t) = false
+answers_ideal (questions.Jumps f e) = false
+answers_ideal (questions.Nu e f j) = false
+answers_ideal (questions.Threshold f j e) = false
+answers_ideal (questions.ThresholdAt f at e) = false
+answers_ideal (questions.Pure j) = false
+answers_ideal (questions.PureAt j at) = false
+answers_ideal (questions.Split j) = true
+answers_ideal (questions.Compatible e u j) = false

@@ -12,7 +12,7 @@ use Rattle.fj_script.specs.declared.value.Value as code
 use Rattle.fj_script.specs.declared.value.Value.TheVariants as values
 use Rattle.fj_script.specs.declared.script.Script.{Script}
 use Rattle.fj_script.specs.LineFault.{Answer}
-use Rattle.fj_script.specs.Session.{Session, Terms, Value, Poly, Ideal, Point}
+use Rattle.fj_script.specs.Session.{Session, Terms, Value, Poly, Ideal, Point, Let}
 
 -- A function gives what a rule answers: the value, with this state after it, or the first fault.
 abbrev pub Gives : {X A : Type 0} → (X → A) → Result X LineFault → State → Answer A → Type 0
@@ -38,6 +38,7 @@ abbrev pub seen : code.Value → Value
 seen (values.Poly h) = Poly h.terms
 seen (values.Ideal hs) = Ideal (terms_of hs)
 seen (values.Point cs) = Point cs
+seen (values.Let budget question) = Let budget question
 
 abbrev pub seen_values : List (List ℕ × code.Value) → List (List ℕ × Value)
 seen_values vs = map (λ v. (v.0, seen v.1)) vs

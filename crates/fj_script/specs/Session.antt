@@ -13,11 +13,13 @@ use Rattle.fj_script.specs.declared.value.Kind.TheVariants as kinds
 abbrev pub Terms : Type 0
 Terms = List (List ℕ × ℕ)
 
--- What a declared name stands for.
+-- What a declared name stands for: a polynomial, an ideal by its generators, a point, or the ideal that a question has as its
+-- answer, with the turn budget that stands at its line.
 pub data Value : Type 0 where
   Poly : Terms → Value
   Ideal : List Terms → Value
   Point : List ℕ → Value
+  Let : ℕ → Question → Value
 
 -- The prime and the variables of the ring, the values by their names in order of declaration, the terms of all declared
 -- polynomials and generators, the printing order and the turn budget of the questions that follow, and the questions.
@@ -41,6 +43,7 @@ abbrev pub kind : Value → Kind
 kind (Poly f) = if is_nonconstant f then kinds.Nonconstant else kinds.Constant
 kind (Ideal fs) = kinds.Ideal
 kind (Point cs) = kinds.Point
+kind (Let budget question) = kinds.Ideal
 
 -- How many terms count for the limit on all terms.
 abbrev pub terms_in : List Terms → ℕ

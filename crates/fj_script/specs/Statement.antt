@@ -15,7 +15,7 @@ use Rattle.fj_script.specs.LineFault.{◌>>=◌, fault_at}
 use Rattle.fj_script.specs.Items.{at_end, word, word_of}
 use Rattle.fj_script.specs.Session.{Session, ask}
 use Rattle.fj_script.specs.Ring.{ring}
-use Rattle.fj_script.specs.Declaration.{ideal, point, poly}
+use Rattle.fj_script.specs.Declaration.{ideal, named_result, point, poly}
 use Rattle.fj_script.specs.Numbers.{within}
 use Rattle.fj_script.specs.Question.{question_at}
 
@@ -53,8 +53,9 @@ keyword_of w =
     else (if bytes_eq w (codes "poly") then Some keywords.Poly
     else (if bytes_eq w (codes "ideal") then Some keywords.Ideal
     else (if bytes_eq w (codes "point") then Some keywords.Point
+    else (if bytes_eq w (codes "let") then Some keywords.Let
     else (if bytes_eq w (codes "ask") then Some keywords.Ask
-    else None))))))
+    else None)))))))
 
 -- The first statement is the ring's, and without a ring no other begins.
 unfoldable pub first : Option Keyword → State → Result Session LineFault
@@ -64,6 +65,7 @@ first (Some keywords.Budget) s = Err (fault_at kinds.NoRing s)
 first (Some keywords.Poly) s = Err (fault_at kinds.NoRing s)
 first (Some keywords.Ideal) s = Err (fault_at kinds.NoRing s)
 first (Some keywords.Point) s = Err (fault_at kinds.NoRing s)
+first (Some keywords.Let) s = Err (fault_at kinds.NoRing s)
 first (Some keywords.Ask) s = Err (fault_at kinds.NoRing s)
 first None s = Err (fault_at kinds.Syntax s)
 
@@ -74,6 +76,7 @@ later (Some keywords.Budget) S s = budget S s
 later (Some keywords.Poly) S s = poly S s
 later (Some keywords.Ideal) S s = ideal S s
 later (Some keywords.Point) S s = point S s
+later (Some keywords.Let) S s = named_result S s
 later (Some keywords.Ask) S s = asking S s
 later None S s = Err (fault_at kinds.Syntax s)
 

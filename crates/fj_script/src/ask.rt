@@ -1,6 +1,6 @@
 //! The words of questions.
 ghost use Rattle.std.specs.Prelude.{◌≡◌};
-ghost use Rattle.fj_script.specs.Question.{ask_of, is_above_zero};
+ghost use Rattle.fj_script.specs.Question.{ask_of, asks_ideal, ideal_ask_of, is_above_zero};
 
 /// The word that names a question.
 #[derive(Clone, Copy)]
@@ -65,6 +65,23 @@ impl TestIdeal {
     }
 }
 
+impl Ask {
+    /// Whether the question has an ideal as its answer.
+    fn asks_ideal(self) -> bool
+        ensures { result ≡ asks_ideal self }
+    {
+        match self {
+            Ask::OneIdeal(_) => true,
+            Ask::TwoIdeals(TwoIdeals::Same) => false,
+            Ask::TwoIdeals(_) => true,
+            Ask::Frobenius(_) => true,
+            Ask::TestIdeal(TestIdeal::Test) => true,
+            Ask::TestIdeal(TestIdeal::Left) => true,
+            _ => false,
+        }
+    }
+}
+
 /// The question that a word names.
 #[tactic(auto, unfolding(crate::specs::Question::ask_of))]
 pub(crate) fn ask_of(word: &[u8]) -> Option<Ask>
@@ -93,4 +110,13 @@ pub(crate) fn ask_of(word: &[u8]) -> Option<Ask>
         b"compatible" => Some(Ask::Compatible),
         _ => None,
     }
+}
+
+/// The question that a word names, where it has an ideal as its answer.
+#[tactic(auto, unfolding(crate::specs::Question::ideal_ask_of))]
+pub(crate) fn ideal_ask_of(word: &[u8]) -> Option<Ask>
+    ensures { result ≡ ideal_ask_of word.now }
+{
+    let ask = ask_of(word)?;
+    if ask.asks_ideal() { Some(ask) } else { None }
 }

@@ -2,7 +2,7 @@
 ghost use Rattle.std.specs.Prelude.{◌≡◌, ◌+◌, ◌<◌, ◌≤◌, ℕ, length, map, Contains, IfOk, OnOk, None};
 ghost use Rattle.fj_coeff.specs.Field.{primes};
 ghost use Rattle.fj_text.specs.Word.{IsWord, place_of};
-ghost use Rattle.fj_script.specs.Declaration.{constant, coordinate, counted, generator, ideal, name_equals, point, poly};
+ghost use Rattle.fj_script.specs.Declaration.{constant, coordinate, counted, generator, ideal, name_equals, named_result, point, poly};
 ghost use Rattle.fj_script.specs.Items.{enclosed, listed};
 ghost use Rattle.fj_script.specs.Names.{declared_names, new_name};
 ghost use Rattle.fj_script.specs.Seen.{Gives, Makes, Reads, terms_of};
@@ -11,6 +11,7 @@ ghost use Rattle.fj_script.specs.Session.{terms_in};
 use super::expression::expression;
 use super::fault::{FaultKind, LineFault, LineRefusal, fault_at};
 use super::items::{at_end, narrow, sign, word};
+use super::question::ideal_question_at;
 use super::session::Session;
 use super::value::{MAX_VALUES, Value};
 use fj_plain::{PlainList, PlainPoint, PlainPoly};
@@ -18,7 +19,7 @@ use fj_text::Reader;
 use std::alloc::Global;
 
 /// The most generators of an ideal.
-const MAX_GENERATORS: usize = 64;
+const MAX_GENERATORS: usize = 256;
 
 /// The most terms of all polynomials and generators.
 const MAX_TERMS: usize = 1000000;
@@ -218,6 +219,26 @@ pub(crate) fn point(
     }
     at_end(reader)?;
     let value = Value::Point(PlainPoint::of(coordinates));
+    session.declare(alloc, name, value, 0)?;
+    Ok(())
+}
+
+/// What stands behind the word `let`.
+#[tactic(auto, using(crate::proofs::Ends::ends, crate::proofs::Ends::goes_on), unfolding(crate::specs::Declaration::named_result))]
+pub(crate) fn named_result(
+    alloc: Global,
+    session: &mut Session,
+    reader: &mut Reader,
+) -> Result<(), LineRefusal>
+    ensures { Makes (λ _. session.new) result (named_result session.old reader.old) }
+{
+    let name = name_equals(session, reader)?;
+    let question = ideal_question_at(session, reader)?;
+    at_end(reader)?;
+    let value = Value::Let {
+        budget: session.budget,
+        question,
+    };
     session.declare(alloc, name, value, 0)?;
     Ok(())
 }

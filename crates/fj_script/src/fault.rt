@@ -19,7 +19,7 @@ pub enum FaultKind {
     Syntax,
     /// The first statement is another one than `ring`, or there is none.
     NoRing,
-    /// The ring's number isn't 2, 3, 5, 7, 11 or 13.
+    /// The ring's number isn't a prime up to 31.
     Prime,
     /// An eighth variable.
     Vars,
@@ -37,7 +37,7 @@ pub enum FaultKind {
     Constant,
     /// More or fewer coordinates of a point than there are variables.
     Arity,
-    /// A 4,097th declared name or question, a 65th generator, or over 1,000,000 terms in all declarations.
+    /// A 4,097th declared name or question, a 257th generator, or over 1,000,000 terms in all declarations.
     Many,
     /// A number outside its limits.
     Range,

@@ -1,10 +1,10 @@
 //! Questions, and the reading of their arguments.
 ghost use Rattle.std.specs.Prelude.{◌≡◌, ◌<◌, length, map, slice_get, Some};
 ghost use Rattle.fj_text.specs.Seen.{seen};
-ghost use Rattle.fj_script.specs.Question.{arguments, compatible, jumps, member, nu, of_frobenius, of_ideal, of_test_ideal, of_two_ideals, parts, pure, question_at, target_at, target_seen, threshold};
+ghost use Rattle.fj_script.specs.Question.{arguments, compatible, ideal_question_at, jumps, member, nu, of_frobenius, of_ideal, of_test_ideal, of_two_ideals, parts, pure, question_at, target_at, target_seen, threshold};
 ghost use Rattle.fj_script.specs.Seen.{Gives};
 
-use super::ask::{Ask, Frobenius, OneIdeal, TestIdeal, TwoIdeals, ask_of};
+use super::ask::{Ask, Frobenius, OneIdeal, TestIdeal, TwoIdeals, ask_of, ideal_ask_of};
 use super::fault::{FaultKind, LineFault, fault_at};
 use super::items::word;
 use super::number::{exponent, level, ratio};
@@ -274,12 +274,27 @@ fn arguments(ask: Ask, session: &Session, reader: &mut Reader) -> Result<Questio
 }
 
 /// A question, from the word that names it.
-#[tactic(auto, unfolding(crate::specs::Question::question_at))]
+#[tactic(auto, unfolding(crate::specs::Question::question_at, crate::specs::Question::question_by))]
 pub(crate) fn question_at(session: &Session, reader: &mut Reader) -> Result<Question, LineFault>
     ensures { Gives (λ q. q) result reader.new (question_at session.now reader.old) }
 {
     let word = word(reader)?;
     match ask_of(word) {
+        Some(ask) => arguments(ask, session, reader),
+        None => Err(fault_at(FaultKind::Syntax, reader)),
+    }
+}
+
+/// A question that has an ideal as its answer, from the word that names it.
+#[tactic(auto, unfolding(crate::specs::Question::ideal_question_at, crate::specs::Question::question_by))]
+pub(crate) fn ideal_question_at(
+    session: &Session,
+    reader: &mut Reader,
+) -> Result<Question, LineFault>
+    ensures { Gives (λ q. q) result reader.new (ideal_question_at session.now reader.old) }
+{
+    let word = word(reader)?;
+    match ideal_ask_of(word) {
         Some(ask) => arguments(ask, session, reader),
         None => Err(fault_at(FaultKind::Syntax, reader)),
     }

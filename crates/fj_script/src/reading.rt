@@ -69,10 +69,10 @@ fn all_lines(alloc: Global, bytes: &[u8]) -> Result<Option<Session>, ScriptFault
 /// at one place the kind that is named first in `FaultKind`.
 ///
 /// A session is lines parted by LF. A `#` begins a comment, and blank, tab and CR part tokens. The first statement is
-/// `ring p v1, v2, ..`, the prime 2, 3, 5, 7, 11 or 13 and one to seven variables. Then come `order grevlex`,
-/// `order grlex` or `order lex`, `budget b` with 1 to 10,000,000 turns, `poly N = expr`, `ideal N = (expr, ..)` with one to
-/// 64 generators, `point N = (c, ..)` with a constant for each variable, and `ask` with a question. At most 4,096 names are
-/// declared, with at most 1,000,000 terms, and at most 4,096 questions asked.
+/// `ring p v1, v2, ..`, a prime up to 31 and one to seven variables. Then come `order grevlex`, `order grlex` or
+/// `order lex`, `budget b` with 1 to 10,000,000 turns, `poly N = expr`, `ideal N = (expr, ..)` with one to 256 generators,
+/// `point N = (c, ..)` with a constant for each variable, and `ask` with a question. At most 4,096 names are declared, with
+/// at most 1,000,000 terms, and at most 4,096 questions asked.
 pub fn read_script(alloc: Global, bytes: &[u8]) -> Result<Script, ScriptFault>
     ensures { IsReadingOf (script bytes.now) result }
 {

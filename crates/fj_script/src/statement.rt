@@ -4,7 +4,7 @@ ghost use Rattle.fj_text.specs.Seen.{seen};
 ghost use Rattle.fj_script.specs.Seen.{Makes};
 ghost use Rattle.fj_script.specs.Statement.{asking, budget, first, keyword_of, later, line, order, order_of, statement};
 
-use super::declaration::{ideal, point, poly};
+use super::declaration::{ideal, named_result, point, poly};
 use super::fault::{FaultKind, LineRefusal, fault_at};
 use super::items::{at_end, word, word_of};
 use super::number::within;
@@ -30,6 +30,7 @@ pub enum Keyword {
     Poly,
     Ideal,
     Point,
+    Let,
     Ask,
 }
 
@@ -45,6 +46,7 @@ fn keyword_of(word: &[u8]) -> Option<Keyword>
         b"poly" => Some(Keyword::Poly),
         b"ideal" => Some(Keyword::Ideal),
         b"point" => Some(Keyword::Point),
+        b"let" => Some(Keyword::Let),
         b"ask" => Some(Keyword::Ask),
         _ => None,
     }
@@ -133,6 +135,7 @@ fn later(
         Some(Keyword::Poly) => poly(alloc, session, reader),
         Some(Keyword::Ideal) => ideal(alloc, session, reader),
         Some(Keyword::Point) => point(alloc, session, reader),
+        Some(Keyword::Let) => named_result(alloc, session, reader),
         Some(Keyword::Ask) => asking(session, reader),
         Some(Keyword::Ring) => Err(fault_at(FaultKind::Syntax, reader).into()),
         None => Err(fault_at(FaultKind::Syntax, reader).into()),

@@ -7,6 +7,7 @@ ghost use Rattle.fj_script.specs.Names.{declared_names};
 ghost use Rattle.fj_script.specs.Session.{is_nonconstant, kind};
 ghost use Rattle.fj_script.specs.Seen.{seen, seen_values};
 
+use super::question::Question;
 use fj_plain::{PlainList, PlainPoint, PlainPoly, PlainTerm};
 use indexmap::IndexMap;
 use std::alloc::{AllocError, Global};
@@ -23,6 +24,8 @@ pub enum Value {
     Ideal(PlainList),
     /// The coordinates of a point, one for each variable.
     Point(PlainPoint),
+    /// The ideal that a question has as its answer, where each basis run has at most so many turns.
+    Let { budget: u64, question: Question },
 }
 
 /// The kinds of values, as places tell them apart.
@@ -68,6 +71,7 @@ impl Value {
             }
             Value::Ideal(_) => Kind::Ideal,
             Value::Point(_) => Kind::Point,
+            Value::Let { .. } => Kind::Ideal,
         }
     }
 }

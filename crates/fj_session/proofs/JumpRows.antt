@@ -1,7 +1,8 @@
 -- The F-jumping numbers of a polynomial as the answer to a question.
 use Rattle.std.proofs.Common.{◌≡◌, ◌≢◌, ◌↔◌, ◌⊎◌, inl, inr, ℕ, Bool, IsTrue, List, [], ◌∷◌, All, Any, Contains, map, Result, Ok, Err, IfOk, sym, ap, ◌∙◌, subst, refl}
+use Rattle.std.specs.List.{AllZip}
 use Rattle.std.specs.List.Sorted.{IsStrictlySortedBy}
-use Rattle.std.proofs.lemmas.List.Elements.{All-contains, All-map, All-weaker}
+use Rattle.std.proofs.lemmas.List.Elements.{All-contains, All-map}
 use Rattle.fj_coeff.specs.Field.{Field, IsField}
 use Rattle.fj_theory.specs.Candidates.{IsCandidate}
 use Rattle.fj_theory.specs.Fraction.{Fraction, IsInUnitInterval, SameValue, compare}
@@ -16,22 +17,28 @@ use Rattle.fj_testideal.specs.JumpList.{AreJumps, AreOpenGaps, IsListedJump, Jum
 use Rattle.fj_testideal.specs.TestIdeal.{IsTestIdeal}
 use Rattle.fj_testideal.proofs.Jump.{ArePolynomials-IsTestIdeal}
 use Rattle.fj_testideal.proofs.TestIdeal.{IsTestIdeal-SameIdeal}
+use Rattle.fj_plain.specs.Holds.{Holds}
+use Rattle.fj_plain.specs.declared.cert.Cert.{Cert}
 use Rattle.fj_plain.specs.declared.order_name.OrderName.{OrderName}
 use Rattle.fj_plain.specs.declared.order_name.OrderName.TheVariants.{Grevlex}
 use Rattle.fj_basis.specs.declared.stop.Stop.{Stop}
+use Rattle.fj_chain.specs.Lists.{IsLastTestList}
 use Rattle.fj_jump.specs.Rows.{gap_of, jump_of}
 use Rattle.fj_jump.specs.Search.{IsMadeOfLastList}
 use Rattle.fj_jump.specs.declared.rows.GapRow.{GapRow}
 use Rattle.fj_jump.specs.declared.rows.JumpRow.{JumpRow}
 use Rattle.fj_shell.specs.Named.{polynomials}
-use Rattle.fj_session.specs.Answer.{IsAnswerTo}
-use Rattle.fj_session.specs.Jumps.{AreAllJumps, IsIdealOfJump, IsShownJumps, ShowsTestIdeal, meaning_of_jumps, shown_jump}
-use Rattle.fj_session.specs.Meaning.{IsPrintedList}
-use Rattle.fj_session.specs.Outcome.{IsFound, ShowsSomeRow, StopsFor}
+use Rattle.fj_session.specs.Answer.{CertifiesFor, IsAnswerTo}
+use Rattle.fj_session.specs.Jumps.{AreAllJumps, CertifiesJumps, IsIdealOfJump, IsShownJumps, ShowsTestIdeal, meaning_of_jumps, shown_jump}
+use Rattle.fj_session.specs.Meaning.{CertifiesIdeal, IsPrintedList}
+use Rattle.fj_session.specs.Outcome.{IsCertified, IsFound, IsIdealFor, ShowsSomeRow, StopsFor}
+use Rattle.fj_session.specs.declared.certified.Certified.{Certified}
 use Rattle.fj_session.specs.declared.types.Answer.{Answer}
 use Rattle.fj_session.specs.declared.types.Answer.TheVariants as answers
 use Rattle.fj_session.specs.declared.types.ShownJump.{ShownJump}
-use Rattle.fj_session.proofs.Printed.{key_of-IsMonomialOrder}
+use Rattle.fj_session.proofs.Made.{made_for}
+use Rattle.fj_session.proofs.Printed.{ideal_answer, ideal_certificate, key_of-IsMonomialOrder}
+use Rattle.fj_session.proofs.Zips.{AllZip-first, AllZip-second, AllZip-weaker}
 
 map_of_map : {X Y Z : Type 0} (g : Y → Z) (h : X → Y) (xs : List X) → map g (map h xs) ≡ map (λ x. g (h x)) xs
 map_of_map g h [] = refl
@@ -61,21 +68,33 @@ module _ {F : Field} {f : Polynomial} {E : ℕ} {K : Type 0} (found : List (Jump
         basis = subst (IsReducedBasis F grevlex_key one.0.ideal.given) (sym one.2) ideal.reduced;
       }
 
-  module _ (L : IsField F) (A : IsPolynomial F f) (printing : OrderName) (rows : List ShownJump) (same : map (λ row. row.at) rows ≡ map (λ row. row.at) found) (shows : All (ShowsSomeRow F printing found) rows) where
-    shows_ideal : (row : ShownJump) → ShowsSomeRow F printing found row → ShowsTestIdeal F printing f row
-    shows_ideal row s = record {
-      ideal = s.found.ideal.given;
-      asked = subst (λ t. IsTestIdeal F f t s.found.ideal.given) (sym s.shows.at) (listed s.found s.among).is_test_ideal;
-      shown = s.shows.ideal;
-    }
+  module _ (L : IsField F) (A : IsPolynomial F f) (made : All (IsMadeOfLastList F f) found) (printing : OrderName) (rows : List ShownJump) (certs : List Cert) (same : map (λ row. row.at) rows ≡ map (λ row. row.at) found) (shows : AllZip (ShowsSomeRow F printing found) rows certs) where
+    -- The ideal of the row that is shown is the test ideal that is asked for.
+    row_for : (row : ShownJump) (cert : Cert) (s : ShowsSomeRow F printing found row cert) → IsIdealFor F (IsTestIdeal F f row.at) (IsLastTestList F f row.at) s.found.ideal
+    row_for row cert s =
+        let at = sym s.shows.at in
+        let from = All-contains (IsMadeOfLastList F f) found s.found made s.among in
+        made_for L (IsTestIdeal F f row.at) (IsLastTestList F f row.at) (subst (λ t. IsTestIdeal F f t s.found.ideal.given) at (listed s.found s.among).is_test_ideal) from.ideal
+        (subst (λ t. IsLastTestList F f t s.found.ideal.given) at from.last)
 
-    shows_jump : (row : ShownJump) → ShowsSomeRow F printing found row → IsListedJump F f E (shown_jump row)
-    shows_jump row s =
+    shows_ideal : (row : ShownJump) (cert : Cert) → ShowsSomeRow F printing found row cert → ShowsTestIdeal F printing f row
+    shows_ideal row cert s = ideal_answer L (row_for row cert s) printing s.shows.ideal
+
+    pub rows_certified : AllZip (λ row cert. CertifiesIdeal F printing (IsTestIdeal F f row.at) (IsLastTestList F f row.at) row.ideal cert) rows certs
+    rows_certified =
+        AllZip-weaker (ShowsSomeRow F printing found) (λ row cert. CertifiesIdeal F printing (IsTestIdeal F f row.at) (IsLastTestList F f row.at) row.ideal cert)
+        (λ row cert s. ideal_certificate L (row_for row cert s) printing s.shows.ideal) rows certs shows
+
+    pub certificates_hold : All Holds certs
+    certificates_hold = AllZip-second (ShowsSomeRow F printing found) Holds (λ row cert s. s.shows.ideal.holds) rows certs shows
+
+    shows_jump : (row : ShownJump) (cert : Cert) → ShowsSomeRow F printing found row cert → IsListedJump F f E (shown_jump row)
+    shows_jump row cert s =
         let jump = listed s.found s.among in
         let at = sym s.shows.at in
         let K = key_of-IsMonomialOrder printing in
         let P = ArePolynomials-IsTestIdeal jump.is_test_ideal in
-        let basis = s.shows.ideal.reduced in
+        let basis = s.shows.ideal.basis.reduced in
         record {
           candidate = subst (IsCandidate F.characteristic E) at jump.candidate;
           is_jump = subst (IsJump F f) at jump.is_jump;
@@ -89,7 +108,7 @@ module _ {F : Field} {f : Polynomial} {E : ℕ} {K : Type 0} (found : List (Jump
 
     jumps_shown : AreJumps F f E (map shown_jump rows)
     jumps_shown = record {
-      sound = All-map (IsListedJump F f E) shown_jump rows (All-weaker (ShowsSomeRow F printing found) (λ row. IsListedJump F f E (shown_jump row)) shows_jump rows shows);
+      sound = All-map (IsListedJump F f E) shown_jump rows (AllZip-first (ShowsSomeRow F printing found) (λ row. IsListedJump F f E (shown_jump row)) shows_jump rows certs shows);
       listed_or_unchanged = λ t candidate. by t (are.listed_or_unchanged t candidate);
       rising = subst (IsStrictlySortedBy compare) numbers are.rising;
     }
@@ -102,7 +121,7 @@ module _ {F : Field} {f : Polynomial} {E : ℕ} {K : Type 0} (found : List (Jump
         → (IsTrue complete → (t : Fraction) → IsInUnitInterval t → IsJump F f t ↔ Any (λ row. SameValue t row.at) found) → AreAllJumps F printing f E rows gaps complete
     all_shown gaps complete open_gaps none all = record {
       are_jumps = jumps_shown;
-      shown = All-weaker (ShowsSomeRow F printing found) (ShowsTestIdeal F printing f) shows_ideal rows shows;
+      shown = AllZip-first (ShowsSomeRow F printing found) (ShowsTestIdeal F printing f) shows_ideal rows certs shows;
       are_open = open_gaps;
       is_complete = none;
       all = λ is t unit. (
@@ -116,6 +135,11 @@ module _ (F : Field) (printing : OrderName) (f : Polynomial) (E budget : ℕ) wh
   jumps_for (answers.Jumps jumps gaps complete) h = h
   jumps_for _ h = absurd h
 
-  pub found_jumps : (r : Result Answer Stop) → IfOk r (IsShownJumps F printing f E) → StopsFor F (meaning_of_jumps F printing f E) budget r → IsFound F (meaning_of_jumps F printing f E) printing budget r
-  found_jumps (Ok a) h stop = (jumps_for a h, stop)
-  found_jumps (Err s) h stop = (tt, stop)
+  certifies_for : (a : Answer) (certs : List Cert) → CertifiesJumps F printing f a certs → CertifiesFor (meaning_of_jumps F printing f E) a certs
+  certifies_for (answers.Jumps jumps gaps complete) certs h = h
+  certifies_for _ certs h = absurd h
+
+  pub found_jumps : (r : Result Certified Stop) → IfOk r (λ c. IsShownJumps F printing f E c.answer) → IfOk r (λ c. CertifiesJumps F printing f c.answer c.certificates.items) → IfOk r (λ c. All Holds c.certificates.items)
+      → StopsFor F (meaning_of_jumps F printing f E) budget r → IsFound F (meaning_of_jumps F printing f E) printing budget r
+  found_jumps (Ok c) h certifies hold stop = (record { answer = jumps_for c.answer h; certificates = certifies_for c.answer c.certificates.items certifies; hold = hold }, stop)
+  found_jumps (Err s) h certifies hold stop = (tt, stop)

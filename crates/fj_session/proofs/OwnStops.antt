@@ -10,17 +10,18 @@ use Rattle.fj_ideal.specs.Lists.{NoProduct, RunFor}
 use Rattle.fj_ideal.specs.Stop.{IsCauseOf, IsWritten, StopsExactlyWith, StopsOnlyWith}
 use Rattle.fj_ideal.proofs.Stops.{only_from_exactly, only_handed_on, only_of_more}
 use Rattle.fj_session.specs.Outcome.{OwnStops}
+use Rattle.fj_session.specs.Standing.{IsDeclaredList, Standing}
 
 -- A stop of the run on a declared list, handed on.
-pub declared_handed_on : {T : Type 0} (F : Field) (budget : ℕ) (IsList : OrderName → List Polynomial → Type 0) (IsProduct : List Polynomial → Type 0) (L : List Polynomial) → IsList Grevlex L → (s : Stop) (r : Result T Stop)
-    → IsErrAnd r (λ y. y ≡ s) → IsCauseOf F (RunFor Grevlex (λ M. M ≡ L)) NoProduct budget s × IsWritten F s → StopsOnlyWith F IsList IsProduct budget r
-declared_handed_on F budget IsList IsProduct L list s r is h =
-    only_handed_on F budget (RunFor Grevlex (λ M. M ≡ L)) IsList NoProduct IsProduct (λ o M e. subst (λ n. IsList n M) (sym e.0) (subst (IsList Grevlex) (sym e.1) list)) (λ M none. absurd none) s r is h
+pub declared_handed_on : {T : Type 0} (F : Field) (budget : ℕ) (IsList : OrderName → List Polynomial → Type 0) (IsProduct : List Polynomial → Type 0) (J : Standing) → ((M : List Polynomial) → IsDeclaredList J M → IsList Grevlex M)
+    → (s : Stop) (r : Result T Stop) → IsErrAnd r (λ y. y ≡ s) → IsCauseOf F (RunFor Grevlex (IsDeclaredList J)) NoProduct budget s × IsWritten F s → StopsOnlyWith F IsList IsProduct budget r
+declared_handed_on F budget IsList IsProduct J list s r is h =
+    only_handed_on F budget (RunFor Grevlex (IsDeclaredList J)) IsList NoProduct IsProduct (λ o M e. subst (λ n. IsList n M) (sym e.0) (list M e.1)) (λ M none. absurd none) s r is h
 
 module _ (F : Field) (budget : ℕ) (IsList IsProduct : List Polynomial → Type 0) where
-  pub own_handed_on : {T : Type 0} (L : List Polynomial) → IsList L → (s : Stop) (r : Result T Stop) → IsErrAnd r (λ y. y ≡ s) → IsCauseOf F (RunFor Grevlex (λ M. M ≡ L)) NoProduct budget s × IsWritten F s
-      → OwnStops F IsList IsProduct budget r
-  own_handed_on L list s r is h = declared_handed_on F budget (RunFor Grevlex IsList) IsProduct L (refl, list) s r is h
+  pub own_handed_on : {T : Type 0} (J : Standing) → ((M : List Polynomial) → IsDeclaredList J M → IsList M) → (s : Stop) (r : Result T Stop) → IsErrAnd r (λ y. y ≡ s)
+      → IsCauseOf F (RunFor Grevlex (IsDeclaredList J)) NoProduct budget s × IsWritten F s → OwnStops F IsList IsProduct budget r
+  own_handed_on J list s r is h = declared_handed_on F budget (RunFor Grevlex IsList) IsProduct J (λ M d. (refl, list M d)) s r is h
 
   module _ (P R : List Polynomial → Type 0) (f : (M : List Polynomial) → P M → IsList M) (g : (M : List Polynomial) → R M → IsProduct M) where
     -- The stops of an operation on ideals.

@@ -1,15 +1,21 @@
 -- The answer to a question, as data.
-use Rattle.std.specs.Prelude.{◌≡◌, ◌⊎◌, ℕ, ◌≤◌, Bool, true, false, List, All, slice_index}
+use Rattle.std.specs.Prelude.{◌≡◌, ◌⊎◌, ℕ, ◌≤◌, Bool, true, false, List, [], All, slice_index}
 use Rattle.fj_coeff.specs.Field.{Field}
 use Rattle.fj_coeff.specs.PrimeField.{prime_field}
 use Rattle.fj_theory.specs.Plain.{PlainPolynomial, polynomial}
 use Rattle.fj_theory.specs.PointIdeal.{UsesFirst}
+use Rattle.fj_plain.specs.declared.cert.Cert.{Cert}
 use Rattle.fj_plain.specs.declared.order_name.OrderName.{OrderName}
+use Rattle.fj_plain.specs.declared.order_name.OrderName.TheVariants.{Grevlex}
+use Rattle.fj_plain.specs.Holds.{Holds}
 use Rattle.fj_basis.specs.Outcome.{TermsFall}
 use Rattle.fj_ideal.specs.Stop.{IsProductOf, IsTooHigh, IsUnfinished, key_of}
 use Rattle.fj_script.specs.declared.question.Asked.{Asked}
+use Rattle.fj_script.specs.declared.question.Question.{Question}
 use Rattle.fj_script.specs.declared.script.Env.{Env}
+use Rattle.fj_session.specs.Lets.{AreValues}
 use Rattle.fj_session.specs.Meaning.{Meaning}
+use Rattle.fj_session.specs.Standing.{Uses, Values}
 use Rattle.fj_session.specs.Statement.{meaning_of}
 use Rattle.fj_session.specs.declared.types.Answer.{Answer}
 use Rattle.fj_session.specs.declared.types.Answer.TheVariants.{Parts, Ideal, Yes, No, Off, StoppedPairs, StoppedHigh}
@@ -24,13 +30,47 @@ IsAnswerTo F meaning printing budget (StoppedPairs k) = IsUnfinished F meaning.l
 IsAnswerTo F meaning printing budget (StoppedHigh k) = (IsTooHigh F meaning.lists budget k ⊎ IsProductOf meaning.products k) × TermsFall (key_of printing) k.list
 IsAnswerTo F meaning printing budget answer = meaning.answer answer
 
+-- What the answer to a question is where the lets have these values.
+abbrev pub IsAnswerWith : Field → Env → Asked → Answer → Values → Type 0
+IsAnswerWith F env asked answer V = IsAnswerTo F (meaning_of F env V asked.order asked.question) asked.order asked.budget answer
+
+abbrev pub IsStop : Answer → Type 0
+IsStop (StoppedPairs k) = Unit {0}
+IsStop (StoppedHigh k) = Unit {0}
+IsStop _ = ⊥
+
+-- The question stops since a let that it uses does, with the budget of that let.
+pub record IsStopOfLet (F : Field) (env : Env) (asked : Asked) (answer : Answer) : Type 0 where
+  pub place : ℕ
+  pub budget : ℕ
+  pub question : Question
+  pub uses : Uses env asked.question place budget question
+  pub values : Values
+  pub are_values : AreValues F env question values
+  pub stop : IsStop answer
+  pub cause : IsAnswerTo F (meaning_of F env values Grevlex question) asked.order budget answer
+
 -- What the answer to a question over the field F is.
 abbrev pub IsAnswerOver : Field → Env → Asked → Answer → Type 0
-IsAnswerOver F env asked answer = IsAnswerTo F (meaning_of F env asked.order asked.question) asked.order asked.budget answer
+IsAnswerOver F env asked answer = ((V : Values) × AreValues F env asked.question V × IsAnswerWith F env asked answer V) ⊎ IsStopOfLet F env asked answer
 
 -- What the answer to a question of a session is, over the prime field of its ring.
 abbrev pub IsAnswer : Env → Asked → Answer → Type 0
 IsAnswer env asked answer = IsAnswerOver (prime_field env.p) env asked answer
+
+-- The certificates of an answer; a question that stops has none.
+abbrev pub CertifiesFor : Meaning → Answer → List Cert → Type 0
+CertifiesFor meaning (StoppedPairs k) certs = certs ≡ []
+CertifiesFor meaning (StoppedHigh k) certs = certs ≡ []
+CertifiesFor meaning answer certs = meaning.certificates answer certs
+
+abbrev pub CertifiesOver : Field → Env → Asked → Answer → List Cert → Type 0
+CertifiesOver F env asked answer certs = IsStop answer × (certs ≡ []) ⊎ ((V : Values) × AreValues F env asked.question V × CertifiesFor (meaning_of F env V asked.order asked.question) answer certs)
+
+-- The certificates of an answer to a question of a session, over the prime field of its ring, each of which holds.
+pub record Certifies (env : Env) (asked : Asked) (answer : Answer) (certs : List Cert) : Type 0 where
+  pub are : CertifiesOver (prime_field env.p) env asked answer certs
+  pub hold : All Holds certs
 
 -- The question stopped.
 abbrev pub is_stopped : Answer → Bool

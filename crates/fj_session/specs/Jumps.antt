@@ -1,20 +1,23 @@
 -- What the question on the F-jumping numbers of a polynomial f means.
 use Rattle.std.specs.Prelude.{◌≡◌, ◌⊎◌, ◌↔◌, ℕ, Bool, IsTrue, List, [], All, Any, map}
 use Rattle.fj_coeff.specs.Field.{Field}
+use Rattle.std.specs.List.{AllZip}
 use Rattle.fj_theory.specs.Candidates.{IsCandidate}
 use Rattle.fj_theory.specs.Fraction.{Fraction, IsInUnitInterval, SameValue}
 use Rattle.fj_theory.specs.Polynomial.{Polynomial}
 use Rattle.fj_testideal.specs.Jump.{IsJump}
 use Rattle.fj_testideal.specs.JumpList.{AreJumps, AreOpenGaps, Jump}
 use Rattle.fj_testideal.specs.TestIdeal.{IsTestIdeal}
+use Rattle.fj_plain.specs.declared.cert.Cert.{Cert}
 use Rattle.fj_plain.specs.declared.order_name.OrderName.{OrderName}
 use Rattle.fj_plain.specs.declared.order_name.OrderName.TheVariants.{Grevlex}
 use Rattle.fj_ideal.specs.Lists.{RunFor}
+use Rattle.fj_chain.specs.Lists.{IsLastTestList}
 use Rattle.fj_jump.specs.Lists.{IsHighInSearch, IsSearchList}
 use Rattle.fj_jump.specs.Rows.{gap_of}
 use Rattle.fj_jump.specs.declared.rows.GapRow.{GapRow}
 use Rattle.fj_shell.specs.Named.{polynomials}
-use Rattle.fj_session.specs.Meaning.{IsIdealAnswer, IsPrintedList, Meaning}
+use Rattle.fj_session.specs.Meaning.{CertifiesIdeal, IsIdealAnswer, IsPrintedList, Meaning, NoIdeal}
 use Rattle.fj_session.specs.declared.types.Answer.{Answer}
 use Rattle.fj_session.specs.declared.types.Answer.TheVariants as answers
 use Rattle.fj_session.specs.declared.types.ShownJump.{ShownJump}
@@ -41,6 +44,11 @@ abbrev pub IsShownJumps : Field → OrderName → Polynomial → ℕ → Answer 
 IsShownJumps F printing f E (answers.Jumps jumps gaps complete) = AreAllJumps F printing f E jumps gaps complete
 IsShownJumps F printing f E _ = ⊥
 
+-- The certificates of the ideals that are printed, one a row.
+abbrev pub CertifiesJumps : Field → OrderName → Polynomial → Answer → List Cert → Type 0
+CertifiesJumps F printing f (answers.Jumps jumps gaps complete) certs = AllZip (λ row cert. CertifiesIdeal F printing (IsTestIdeal F f row.at) (IsLastTestList F f row.at) row.ideal cert) jumps certs
+CertifiesJumps F printing f _ certs = ⊥
+
 -- (M) is the test ideal at an F-jumping number in C_E.
 pub record IsIdealOfJump (F : Field) (f : Polynomial) (E : ℕ) (M : List Polynomial) : Type 0 where
   pub at : Fraction
@@ -54,4 +62,4 @@ IsListOfJumps F printing f E order L = RunFor Grevlex (IsSearchList F f E) order
 
 -- `jumps F E`
 abbrev pub meaning_of_jumps : Field → OrderName → Polynomial → ℕ → Meaning
-meaning_of_jumps F printing f E = record { answer = IsShownJumps F printing f E; lists = IsListOfJumps F printing f E; products = IsHighInSearch F f E }
+meaning_of_jumps F printing f E = record { ideal = NoIdeal; last = NoIdeal; answer = IsShownJumps F printing f E; certificates = CertifiesJumps F printing f; lists = IsListOfJumps F printing f E; products = IsHighInSearch F f E }

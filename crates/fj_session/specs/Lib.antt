@@ -1,3 +1,5 @@
+pub mod Certificates
+pub mod Standing
 pub mod Meaning
 pub mod Ideals
 pub mod Limits
@@ -5,8 +7,14 @@ pub mod Splittings
 pub mod Thresholds
 pub mod Jumps
 pub mod Statement
+pub mod Lets
 pub mod Answer
 pub mod AnswerLaws
 pub mod Outcome
+pub mod Names
+pub mod Used
 pub mod Text
+pub mod Words
+pub mod Reply
+pub mod Lines
 pub mod Program

@@ -10,16 +10,16 @@ use Rattle.fj_testideal.specs.TestIdeal.{IsLeftLimit, IsTestIdeal}
 use Rattle.fj_plain.specs.declared.order_name.OrderName.{OrderName}
 use Rattle.fj_plain.specs.declared.order_name.OrderName.TheVariants.{Grevlex}
 use Rattle.fj_ideal.specs.Lists.{RunFor}
-use Rattle.fj_chain.specs.Lists.{IsHighInJump, IsHighInLeft, IsHighInTest, IsJumpList, IsLeftList, IsTestList}
+use Rattle.fj_chain.specs.Lists.{IsHighInJump, IsHighInLeft, IsHighInTest, IsJumpList, IsLastLeftList, IsLastTestList, IsLeftList, IsTestList}
 use Rattle.fj_session.specs.Meaning.{Meaning, meaning_of_ideal, meaning_of_verdict}
 
 -- `test F t`
 abbrev pub meaning_of_test : Field → OrderName → Polynomial → Fraction → Meaning
-meaning_of_test F printing f t = meaning_of_ideal F printing (IsTestIdeal F f t) (RunFor Grevlex (IsTestList F f t)) (IsHighInTest F f t)
+meaning_of_test F printing f t = meaning_of_ideal F printing (IsTestIdeal F f t) (IsLastTestList F f t) (RunFor Grevlex (IsTestList F f t)) (IsHighInTest F f t)
 
 -- `left F t`
 abbrev pub meaning_of_left : Field → OrderName → Polynomial → Fraction → Meaning
-meaning_of_left F printing f t = meaning_of_ideal F printing (IsLeftLimit F f t) (RunFor Grevlex (IsLeftList F f t)) (IsHighInLeft F f t)
+meaning_of_left F printing f t = meaning_of_ideal F printing (IsLeftLimit F f t) (IsLastLeftList F f t) (RunFor Grevlex (IsLeftList F f t)) (IsHighInLeft F f t)
 
 -- `isjump F t`
 abbrev pub meaning_of_is_jump : Field → Polynomial → Fraction → Meaning

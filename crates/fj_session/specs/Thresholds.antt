@@ -1,4 +1,4 @@
--- What the questions on nu and thresholds mean. f is the polynomial that they name, J the ideal, by its generators.
+-- What the questions on nu and thresholds mean. f is the polynomial that they name, J the ideal, by a list that generates it.
 use Rattle.std.specs.Prelude.{◌≡◌, ◌⊎◌, ℕ, List}
 use Rattle.fj_coeff.specs.Field.{Field}
 use Rattle.fj_theory.specs.Polynomial.{Polynomial}
@@ -10,7 +10,8 @@ use Rattle.fj_thresh.specs.declared.types.Nu.{Nu}
 use Rattle.fj_thresh.specs.declared.types.Nu.TheVariants as nus
 use Rattle.fj_thresh.specs.declared.types.Threshold.{Threshold}
 use Rattle.fj_thresh.specs.declared.types.Threshold.TheVariants as thresholds
-use Rattle.fj_session.specs.Meaning.{Meaning}
+use Rattle.fj_session.specs.Standing.{IsDeclaredList, Standing}
+use Rattle.fj_session.specs.Meaning.{Meaning, NoCertificate, NoIdeal}
 use Rattle.fj_session.specs.declared.types.Answer.{Answer}
 use Rattle.fj_session.specs.declared.types.Answer.TheVariants as answers
 
@@ -27,12 +28,12 @@ IsShownNu F e f J answers.NotIn = IsNuAnswer F e f J nus.NotIn
 IsShownNu F e f J _ = ⊥
 
 -- The lists of nu: the ideal as declared, and the nu lists.
-abbrev pub IsListOfNu : Field → ℕ → Polynomial → List Polynomial → List Polynomial → Type 0
-IsListOfNu F e f J L = (L ≡ J) ⊎ IsNuList F e f J L
+abbrev pub IsListOfNu : Field → ℕ → Polynomial → Standing → List Polynomial → Type 0
+IsListOfNu F e f J L = IsDeclaredList J L ⊎ IsNuList F e f J.list L
 
 -- `nu e F J`
-abbrev pub meaning_of_nu : Field → ℕ → Polynomial → List Polynomial → Meaning
-meaning_of_nu F e f J = record { answer = IsShownNu F e f J; lists = RunFor Grevlex (IsListOfNu F e f J); products = IsHighInNu F e f J }
+abbrev pub meaning_of_nu : Field → ℕ → Polynomial → Standing → Meaning
+meaning_of_nu F e f J = record { ideal = NoIdeal; last = NoIdeal; answer = IsShownNu F e f J.list; certificates = NoCertificate; lists = RunFor Grevlex (IsListOfNu F e f J); products = IsHighInNu F e f J.list }
 
 -- The answer of a call for a threshold as the answer of the question.
 abbrev pub threshold_shown : Threshold → Answer
@@ -52,14 +53,14 @@ IsShownThreshold Holds answers.Off = Holds thresholds.Off
 IsShownThreshold Holds _ = ⊥
 
 -- The lists of a threshold at an ideal: the ideal as declared, and those of the threshold.
-abbrev pub IsListOfThreshold : Field → ℕ → Polynomial → List Polynomial → List Polynomial → Type 0
-IsListOfThreshold F E f J L = (L ≡ J) ⊎ IsThresholdList F E f J L
+abbrev pub IsListOfThreshold : Field → ℕ → Polynomial → Standing → List Polynomial → Type 0
+IsListOfThreshold F E f J L = IsDeclaredList J L ⊎ IsThresholdList F E f J.list L
 
 -- `threshold F J E`
-abbrev pub meaning_of_threshold : Field → ℕ → Polynomial → List Polynomial → Meaning
-meaning_of_threshold F E f J = record { answer = IsShownThreshold (IsThresholdAnswer F E f J); lists = RunFor Grevlex (IsListOfThreshold F E f J); products = IsHighInThreshold F E f J }
+abbrev pub meaning_of_threshold : Field → ℕ → Polynomial → Standing → Meaning
+meaning_of_threshold F E f J = record { ideal = NoIdeal; last = NoIdeal; answer = IsShownThreshold (IsThresholdAnswer F E f J.list); certificates = NoCertificate; lists = RunFor Grevlex (IsListOfThreshold F E f J); products = IsHighInThreshold F E f J.list }
 
 -- `threshold F P E`, P a point in the n variables of the ring
 abbrev pub meaning_of_threshold_at : Field → ℕ → Polynomial → ℕ → List ℕ → Meaning
 meaning_of_threshold_at F E f n point =
-    record { answer = IsShownThreshold (IsPointAnswer F E f n point); lists = RunFor Grevlex (IsPointThresholdList F E f n point); products = IsHighInPointThreshold F E f n point }
+    record { ideal = NoIdeal; last = NoIdeal; answer = IsShownThreshold (IsPointAnswer F E f n point); certificates = NoCertificate; lists = RunFor Grevlex (IsPointThresholdList F E f n point); products = IsHighInPointThreshold F E f n point }

@@ -4,7 +4,7 @@ ghost use Rattle.fj_coeff.specs.PrimeField.{prime_field};
 ghost use Rattle.fj_testideal.specs.Jump.{IsJump};
 ghost use Rattle.fj_testideal.specs.TestIdeal.{IsLeftLimit, IsTestIdeal};
 ghost use Rattle.fj_chain.specs.Admissible.{IsAdmissible};
-ghost use Rattle.fj_chain.specs.Lists.{IsHighInJump, IsHighInLeft, IsHighInTest, IsJumpList, IsLeftList, IsTestList};
+ghost use Rattle.fj_chain.specs.Lists.{IsHighInJump, IsHighInLeft, IsHighInTest, IsJumpList, IsLastLeftList, IsLastTestList, IsLeftList, IsTestList};
 ghost use Rattle.fj_shell.specs.Asked.{IsNonconstantAt};
 ghost use Rattle.fj_shell.specs.Named.{polynomial_at};
 ghost use Rattle.fj_session.specs.Limits.{IsRegularAt};
@@ -47,7 +47,7 @@ pub(crate) fn test<K: Coeff>(
     requires field { K.field ≡ prime_field env.now.p }
     requires named { IsNonconstantAt env.now f }
     requires at_most { t.now.numerator ≤ 8 * t.now.denominator }
-    ensures ideal { IfOk result (IsIdealFor K.field (IsTestIdeal K.field (polynomial_at env.now f) t.now)) }
+    ensures ideal { IfOk result (IsIdealFor K.field (IsTestIdeal K.field (polynomial_at env.now f) t.now) (IsLastTestList K.field (polynomial_at env.now f) t.now)) }
     ensures stop { OwnStops K.field (IsTestList K.field (polynomial_at env.now f) t.now) (IsHighInTest K.field (polynomial_at env.now f) t.now) budget result }
 {
     let polynomial = nonconstant(alloc, env, f)?;
@@ -66,7 +66,7 @@ pub(crate) fn left<K: Coeff>(
     requires named { IsNonconstantAt env.now f }
     requires above_zero { 0 < t.now.numerator }
     requires at_most { t.now.numerator ≤ 8 * t.now.denominator }
-    ensures ideal { IfOk result (IsIdealFor K.field (IsLeftLimit K.field (polynomial_at env.now f) t.now)) }
+    ensures ideal { IfOk result (IsIdealFor K.field (IsLeftLimit K.field (polynomial_at env.now f) t.now) (IsLastLeftList K.field (polynomial_at env.now f) t.now)) }
     ensures stop { OwnStops K.field (IsLeftList K.field (polynomial_at env.now f) t.now) (IsHighInLeft K.field (polynomial_at env.now f) t.now) budget result }
 {
     let polynomial = nonconstant(alloc, env, f)?;

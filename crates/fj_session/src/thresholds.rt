@@ -3,13 +3,14 @@ ghost use Rattle.std.specs.Prelude.{◌≡◌, ◌≤◌, ◌^◌, IfOk, length}
 ghost use Rattle.fj_coeff.specs.PrimeField.{prime_field};
 ghost use Rattle.fj_thresh.specs.Answer.{IsPointAnswer, IsThresholdAnswer};
 ghost use Rattle.fj_thresh.specs.Lists.{IsHighInNu, IsHighInPointThreshold, IsHighInThreshold, IsPointThresholdList};
-ghost use Rattle.fj_shell.specs.Asked.{IsIdealAt, IsNonconstantAt, IsPointAt};
-ghost use Rattle.fj_shell.specs.Named.{ideal_at, point_at, polynomial_at};
+ghost use Rattle.fj_shell.specs.Asked.{IsNonconstantAt, IsPointAt};
+ghost use Rattle.fj_shell.specs.Named.{point_at, polynomial_at};
+ghost use Rattle.fj_session.specs.Names.{IsAtHand, standing_in};
 ghost use Rattle.fj_session.specs.Outcome.{OwnStops};
 ghost use Rattle.fj_session.specs.Thresholds.{IsListOfNu, IsListOfThreshold, IsShownNu, IsShownThreshold, nu_shown, threshold_shown};
 
-use super::ideals::declared;
 use super::limits::nonconstant;
+use super::names::Names;
 use super::points::point;
 use super::types::Answer;
 use fj_basis::Stop;
@@ -21,22 +22,22 @@ use std::alloc::Global;
 /// The number nu(e) of a polynomial at an ideal, or why there is none.
 pub(crate) fn nu<K: Coeff>(
     alloc: Global,
-    env: &Env,
+    names: &Names<K>,
     budget: u64,
     e: u32,
     f: u32,
     j: u32,
 ) -> Result<Answer, Stop>
-    requires field { K.field ≡ prime_field env.now.p }
+    requires field { K.field ≡ prime_field names.now.env.now.p }
     requires small { e ≤ 12 }
-    requires named { IsNonconstantAt env.now f }
-    requires ideal { IsIdealAt env.now j }
-    ensures answer { IfOk result (IsShownNu K.field e (polynomial_at env.now f) (ideal_at env.now j)) }
-    ensures stop { OwnStops K.field (IsListOfNu K.field e (polynomial_at env.now f) (ideal_at env.now j)) (IsHighInNu K.field e (polynomial_at env.now f) (ideal_at env.now j)) budget result }
+    requires named { IsNonconstantAt names.now.env.now f }
+    requires ideal { IsAtHand K.field names.now j }
+    ensures answer { IfOk result (IsShownNu K.field e (polynomial_at names.now.env.now f) (standing_in names.now j).list) }
+    ensures stop { OwnStops K.field (IsListOfNu K.field e (polynomial_at names.now.env.now f) (standing_in names.now j)) (IsHighInNu K.field e (polynomial_at names.now.env.now f) (standing_in names.now j).list) budget result }
 {
-    let ideal = declared::<K>(alloc, env, budget, j)?;
-    let polynomial = nonconstant(alloc, env, f)?;
-    let found = fj_thresh::nu(alloc, e, &polynomial, &ideal, budget)?;
+    let ideal = names.standing(alloc, budget, j)?;
+    let polynomial = nonconstant(alloc, names.env, f)?;
+    let found = fj_thresh::nu(alloc, e, &polynomial, ideal.ideal(), budget)?;
     Ok(shown(found))
 }
 
@@ -54,23 +55,23 @@ fn shown(nu: Nu) -> Answer
 /// The threshold of a polynomial at an ideal, or why there is none.
 pub(crate) fn threshold<K: Coeff>(
     alloc: Global,
-    env: &Env,
+    names: &Names<K>,
     budget: u64,
     f: u32,
     j: u32,
     e: u32,
 ) -> Result<Answer, Stop>
-    requires field { K.field ≡ prime_field env.now.p }
-    requires named { IsNonconstantAt env.now f }
-    requires ideal { IsIdealAt env.now j }
+    requires field { K.field ≡ prime_field names.now.env.now.p }
+    requires named { IsNonconstantAt names.now.env.now f }
+    requires ideal { IsAtHand K.field names.now j }
     requires positive { 1 ≤ e }
     requires small { K.P ^ e ≤ 65536 }
-    ensures answer { IfOk result (IsShownThreshold (IsThresholdAnswer K.field e (polynomial_at env.now f) (ideal_at env.now j))) }
-    ensures stop { OwnStops K.field (IsListOfThreshold K.field e (polynomial_at env.now f) (ideal_at env.now j)) (IsHighInThreshold K.field e (polynomial_at env.now f) (ideal_at env.now j)) budget result }
+    ensures answer { IfOk result (IsShownThreshold (IsThresholdAnswer K.field e (polynomial_at names.now.env.now f) (standing_in names.now j).list)) }
+    ensures stop { OwnStops K.field (IsListOfThreshold K.field e (polynomial_at names.now.env.now f) (standing_in names.now j)) (IsHighInThreshold K.field e (polynomial_at names.now.env.now f) (standing_in names.now j).list) budget result }
 {
-    let ideal = declared::<K>(alloc, env, budget, j)?;
-    let polynomial = nonconstant(alloc, env, f)?;
-    let found = fj_thresh::threshold(alloc, &polynomial, &ideal, e, budget)?;
+    let ideal = names.standing(alloc, budget, j)?;
+    let polynomial = nonconstant(alloc, names.env, f)?;
+    let found = fj_thresh::threshold(alloc, &polynomial, ideal.ideal(), e, budget)?;
     Ok(shown_threshold(found))
 }
 

@@ -1,14 +1,7 @@
 //! Whole sessions through a source and a sink in memory.
-use fj_io::{MemorySink, MemorySource};
-use fj_session::run;
-use std::alloc::Global;
-use std::process::Abort;
+use crate::running::{GO, Row, all_end, ends};
+use std::alloc::{AllocError, Global};
 use std::test::Fail;
-
-/// The words, the session, the status and the output.
-type Row<'a> = (&'static [&'static str], &'a [u8], u8, &'static [u8]);
-
-const GO: &[&str] = &["run"];
 
 /// Two questions.
 const SESSION_A: &[u8] = b"ring 3 x, y\npoly f = 2*x^4*y+x*y+y^3\nask parts 1 f\nask parts 0 f\n";
@@ -24,8 +17,8 @@ const CUSP: &[u8] =
 
 const CUSP_ANSWERS: &[u8] = b"1: (y, x)\n2: (1)\n3: yes\n4: no\n5: yes\n6: no\n";
 
-/// Parts, and what the words of the command line are.
-static PARTS: [Row<'static>; 25] = [
+/// Parts.
+static PARTS: [Row<'static>; 21] = [
     (GO, SESSION_A, 0, OUTPUT_A),
     (
         GO,
@@ -144,10 +137,6 @@ static PARTS: [Row<'static>; 25] = [
         2,
         b"fault Range at 4:11\n",
     ),
-    (&["go"], b"", 1, b"usage: fjcalc run\n"),
-    (&[], b"", 1, b"usage: fjcalc run\n"),
-    (&["run", "run"], b"", 1, b"usage: fjcalc run\n"),
-    (&["run", "audit"], b"", 1, b"usage: fjcalc run\n"),
 ];
 
 /// What is asked of ideals, in each printing order, and what stops.
@@ -372,7 +361,7 @@ static NUMBERS: [Row<'static>; 3] = [
 ];
 
 /// Thresholds at points and at ideals, and where there are none.
-static THRESHOLDS: [Row<'static>; 5] = [
+static THRESHOLDS: [Row<'static>; 10] = [
     (
         GO,
         b"ring 5 x, y, z\npoly f = x^3+y^3+z^3\npoint O = (0, 0, 0)\nask threshold f O 1\nask threshold f O 2\n",
@@ -391,6 +380,37 @@ static THRESHOLDS: [Row<'static>; 5] = [
         b"ring 11 x, y\npoly f = x^2+y^3\npoint O = (0, 0)\nideal m = (x, y)\nask threshold f O 2\nask threshold f m 2\n",
         0,
         b"1: threshold 9/11\n2: threshold 9/11\n",
+    ),
+    // The threshold is 5/6 where p is 1 modulo 6, and else 5/6 - 1/(6*p).
+    (
+        GO,
+        b"ring 17 x, y\npoly f = x^2+y^3\npoint O = (0, 0)\nask threshold f O 2\n",
+        0,
+        b"1: threshold 14/17\n",
+    ),
+    (
+        GO,
+        b"ring 19 x, y\npoly f = x^2+y^3\npoint O = (0, 0)\nask threshold f O 1\n",
+        0,
+        b"1: threshold 5/6\n",
+    ),
+    (
+        GO,
+        b"ring 23 x, y\npoly f = x^2+y^3\npoint O = (0, 0)\nask threshold f O 2\n",
+        0,
+        b"1: threshold 19/23\n",
+    ),
+    (
+        GO,
+        b"ring 29 x, y\npoly f = x^2+y^3\npoint O = (0, 0)\nask threshold f O 2\n",
+        0,
+        b"1: threshold 24/29\n",
+    ),
+    (
+        GO,
+        b"ring 31 x, y\npoly f = x^2+y^3\npoint O = (0, 0)\nask threshold f O 1\n",
+        0,
+        b"1: threshold 5/6\n",
     ),
     // Another point, and an ideal of two points.
     (
@@ -453,6 +473,7 @@ static JUMPS: [Row<'static>; 6] = [
 /// A fault of each kind but Long.
 static FAULTS: [Row<'static>; 15] = [
     (GO, b"ring 4 x\n", 2, b"fault Prime at 1:6\n"),
+    (GO, b"ring 37 x\n", 2, b"fault Prime at 1:6\n"),
     (GO, b"ring 2 x, x\n", 2, b"fault Taken at 1:11\n"),
     (
         GO,
@@ -496,12 +517,6 @@ static FAULTS: [Row<'static>; 15] = [
     ),
     (
         GO,
-        b"ring 2 x\nideal J = (x,x,x,x,x,x,x,x,x,x,x,x,x,x,x,x,x,x,x,x,x,x,x,x,x,x,x,x,x,x,x,x,x,x,x,x,x,x,x,x,x,x,x,x,x,x,x,x,x,x,x,x,x,x,x,x,x,x,x,x,x,x,x,x,x)\n",
-        2,
-        b"fault Many at 2:139\n",
-    ),
-    (
-        GO,
         b"ring 2 x\npoly f = x\nask test f 9\n",
         2,
         b"fault Range at 3:12\n",
@@ -540,29 +555,21 @@ static LENGTHS: [(usize, usize, u64, u8, &[u8]); 4] = [
     (1_048_577, 1, 1_048_578, 2, b"fault Long at 1:1\n"),
 ];
 
-/// Runs `run` on a session whose source and sink fail at these calls.
-fn ends(
-    rt: &impl Abort,
-    alloc: Global,
-    row: Row<'_>,
-    outside: (usize, u64, usize, u64),
-) -> Result<(), Fail> {
-    let (words, session, status, output) = row;
-    let (step, read, room, write) = outside;
-    assert!(rt; step >= 1);
-    let mut source = MemorySource::new(alloc, session, step, &[read])?;
-    let mut sink = MemorySink::new(alloc, room, &[write])?;
-    assert_eq!(rt; run(alloc, words, &mut source, &mut sink), status);
-    assert_eq!(rt; sink.taken(), output);
-    Ok(())
-}
+/// The generators of an ideal, the status and the output.
+static GENERATORS: [(usize, u8, &[u8]); 2] = [
+    (256, 0, b"1: (x)\n"),
+    (257, 2, b"fault Many at 2:523\n"),
+];
 
-/// Runs `run` on sessions where nothing fails.
-fn all_end(rt: &impl Abort, alloc: Global, rows: &[Row<'static>]) -> Result<(), Fail> {
-    for row in rows {
-        ends(rt, alloc, *row, (10, 0, 1000, 0))?;
+/// An ideal with so many generators x, and a question for its basis.
+fn ideal_of(alloc: Global, generators: usize) -> Result<Vec<u8>, AllocError> {
+    let mut session = Vec::new(alloc);
+    session.extend_from_slice(b"ring 2 x\nideal J = (x")?;
+    for _ in 1..generators {
+        session.extend_from_slice(b",x")?;
     }
-    Ok(())
+    session.extend_from_slice(b")\nask basis J\n")?;
+    Ok(session)
 }
 
 #[test]
@@ -619,6 +626,10 @@ fn holds_to_its_limits(rt: HostRuntime) -> Result<(), Fail> {
             (GO, &session, status, output),
             (step, read, 100, 0),
         )?;
+    }
+    for (generators, status, output) in GENERATORS {
+        let session = ideal_of(alloc, generators)?;
+        ends(&rt, alloc, (GO, &session, status, output), (10, 0, 100, 0))?;
     }
     Ok(())
 }

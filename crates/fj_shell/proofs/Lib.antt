@@ -1,4 +1,5 @@
 pub mod Nonconstant
 pub mod Known
+pub mod Lets
 pub mod Pieces
 pub mod ReadBytes

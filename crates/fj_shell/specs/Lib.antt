@@ -1,3 +1,4 @@
 pub mod Asked
 pub mod Named
+pub mod NamedIdeal
 pub mod Shell

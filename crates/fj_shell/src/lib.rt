@@ -11,6 +11,6 @@ pub mod status;
 
 pub use fault_line::{print_fault, push_decimal};
 pub use input::{ReadFault, read_session};
-pub use named::{generators_at, point_at, polynomial_at};
+pub use named::{NamedIdeal, generators_at, named_ideal_at, point_at, polynomial_at};
 pub use output::{Unwritten, write_fault, write_text};
 pub use script::{Unread, read_whole_script};

@@ -13,6 +13,8 @@ pub mod PrintedLaw
 pub mod FirstVariables
 pub mod Readers
 pub mod Values
+mod Sums
+mod Powers
 pub mod Repeats
 pub mod Parentheses
 pub mod Grammars

@@ -38,7 +38,7 @@ module _ {F : Field} (L : IsField F) where
       ap (λ h. product F h g) (term_neg_one ∙ ap (negation F) (sym (map_one L)) ∙ sym (map_neg L R.one))
       ∙ sym (map_mul L (R.neg R.one) G) ∙ ap (λ h. h.map) (neg_mul R R.one G ∙ ap R.neg (one_mul R G)) ∙ map_neg L G
 
-or_true : (b : Bool) → (b || true) ≡ true
+pub or_true : (b : Bool) → (b || true) ≡ true
 or_true true = refl
 or_true false = refl
 
@@ -62,16 +62,16 @@ module _ (F : Field) (f : Polynomial) where
   unfolding power_within
   power-one = refl
 
-  step : (n : ℕ) → power_within F f (suc (suc n)) ≡ option_and_then (λ g. within (product F g f)) (power_within F f (suc n))
+  pub power-step : (n : ℕ) → power_within F f (suc (suc n)) ≡ option_and_then (λ g. within (product F g f)) (power_within F f (suc n))
   unfolding power_within
-  step n = refl
+  power-step n = refl
 
   -- one more product
   pub power-more : (i : ℕ) (g : Polynomial) → 1 ≤ i → power_within F f i ≡ Some g → power_within F f (i + 1) ≡ within (product F g f)
   power-more zero g h e = absurd (omega arith)
   power-more (suc i) g h e =
       let next : suc i + 1 ≡ suc (suc i) = omega arith in
-      ap (power_within F f) next ∙ step i ∙ ap (option_and_then (λ h. within (product F h f))) e
+      ap (power_within F f) next ∙ power-step i ∙ ap (option_and_then (λ h. within (product F h f))) e
 
   -- where a product is large, there is no greater power
   pub power-large : (i d : ℕ) → 1 ≤ i → power_within F f i ≡ None → power_within F f (i + d) ≡ None
@@ -80,7 +80,7 @@ module _ (F : Field) (f : Polynomial) where
   power-large (suc i) (suc d) h e =
       let next : suc i + suc d ≡ suc (suc (i + d)) = omega arith in
       let before : suc (i + d) ≡ suc i + d = omega arith in
-      ap (power_within F f) next ∙ step (i + d) ∙ ap (option_and_then (λ h. within (product F h f))) (ap (power_within F f) before ∙ power-large (suc i) d h e)
+      ap (power_within F f) next ∙ power-step (i + d) ∙ ap (option_and_then (λ h. within (product F h f))) (ap (power_within F f) before ∙ power-large (suc i) d h e)
 
 -- what holds of each value with P holds of the value of a result
 pub if_ok : {A E : Type 0} (r : Result A E) (P Q : A → Type 0) → ((x : A) → P x → Q x) → IfOk r P → IfOk r Q

@@ -1,7 +1,7 @@
 //! Expressions, as polynomials.
 ghost use Rattle.std.specs.Prelude.{◌≡◌, ◌<◌, ◌≤◌, length, List, ℕ, IsTrue, IfOk, IfSome, Some, None};
 ghost use Rattle.fj_theory.specs.PointIdeal.{variable_exponents};
-ghost use Rattle.fj_theory.specs.Polynomial.{negation, product, term};
+ghost use Rattle.fj_theory.specs.Polynomial.{negation, power, product, term};
 ghost use Rattle.fj_text.specs.Expression.{atom, constant, exponent_of, expression, factor, first_term, formed, is_large, parenthesised, plus_term, power_within, sum_at, taking, term_at, times_factor, variable, within};
 ghost use Rattle.fj_text.specs.Reading.{Reads, ReadsTurn};
 ghost use Rattle.fj_text.specs.Variable.{IsWithin};
@@ -64,8 +64,8 @@ fn product_within<K: Coeff>(
     }
 }
 
-/// The k-th power by k - 1 products, where none of them is large.
-fn power_within<K: Coeff>(
+/// The k-th power by k - 1 products, where none of them is large, product by product.
+fn power_by_products<K: Coeff>(
     alloc: Global,
     f: &GPoly<K>,
     k: u64,
@@ -83,6 +83,44 @@ fn power_within<K: Coeff>(
         power = product;
     }
     Ok(Some(power))
+}
+
+/// The k-th power, where it isn't large.
+fn last_power_within<K: Coeff>(
+    alloc: Global,
+    f: &GPoly<K>,
+    k: u64,
+) -> Result<Option<GPoly<K>>, AllocError>
+    ensures { IfOk result (λ p. p ≡ within (power K.field f.now k)) }
+{
+    match f.pow(alloc, k) {
+        Ok(power) => Ok(within(power)),
+        Err(PolyFault::High) => Ok(None),
+        Err(PolyFault::Memory) => Err(AllocError),
+    }
+}
+
+/// The k-th power by k - 1 products, where none of them is large.
+///
+/// The degree of the last product is the greatest one. Powers of at most two terms below the 1,000th have at most 1,000
+/// terms, so that the last one alone decides and is formed at once.
+fn power_within<K: Coeff>(
+    alloc: Global,
+    f: &GPoly<K>,
+    k: u64,
+) -> Result<Option<GPoly<K>>, AllocError>
+    ensures { IfOk result (λ p. p ≡ power_within K.field f.now k) }
+{
+    if k < 2 || k > MAX_EXPONENT {
+        return power_by_products(alloc, f, k);
+    }
+    if f.degree().unwrap_or(0).saturating_mul(k) > MAX_DEGREE {
+        return Ok(None);
+    }
+    if f.len() > 2 {
+        return power_by_products(alloc, f, k);
+    }
+    last_power_within(alloc, f, k)
 }
 
 /// The value of the subexpression that ends with the last token, where one was formed.

@@ -1,8 +1,12 @@
-//! Tests of what is read and printed: expressions, the texts of values, and sessions with their first faults.
+//! Tests of what is read and printed: expressions, names, the texts of values, and sessions with their first faults.
 #![tactic(auto)]
 
 #[cfg(test)]
 mod expressions;
+#[cfg(test)]
+mod named_results;
+#[cfg(test)]
+mod names;
 #[cfg(test)]
 mod printed;
 #[cfg(test)]

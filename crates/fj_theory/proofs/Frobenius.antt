@@ -35,7 +35,7 @@ same-times q a b h = by (same a b) refl
 primes_in_table : All (λ p. Contains table_primes p) primes
 unfolding primes
 primes_in_table = All-from_recursion (λ p. Contains table_primes p) primes
-    ((0, omega arith, refl), ((1, omega arith, refl), ((2, omega arith, refl), ((3, omega arith, refl), ((4, omega arith, refl), ((5, omega arith, refl), tt))))))
+    ((0, omega arith, refl), ((1, omega arith, refl), ((2, omega arith, refl), ((3, omega arith, refl), ((4, omega arith, refl), ((5, omega arith, refl), ((6, omega arith, refl), ((7, omega arith, refl), ((8, omega arith, refl), ((9, omega arith, refl), ((10, omega arith, refl), tt)))))))))))
 
 module _ {F : Field} (L : IsField F) where
   -- The characteristic is a prime of the table.

@@ -186,7 +186,12 @@ fn thresholds_of_the_cusp(rt: HostRuntime) -> Result<(), Fail> {
     has_threshold::<Fp<5>>(&rt, alloc, CUSP, 2, 4, 5)?;
     has_threshold::<Fp<7>>(&rt, alloc, CUSP, 1, 5, 6)?;
     has_threshold::<Fp<11>>(&rt, alloc, CUSP, 2, 9, 11)?;
-    has_threshold::<Fp<13>>(&rt, alloc, CUSP, 1, 5, 6)
+    has_threshold::<Fp<13>>(&rt, alloc, CUSP, 1, 5, 6)?;
+    has_threshold::<Fp<17>>(&rt, alloc, CUSP, 2, 14, 17)?;
+    has_threshold::<Fp<19>>(&rt, alloc, CUSP, 1, 5, 6)?;
+    has_threshold::<Fp<23>>(&rt, alloc, CUSP, 2, 19, 23)?;
+    has_threshold::<Fp<29>>(&rt, alloc, CUSP, 2, 24, 29)?;
+    has_threshold::<Fp<31>>(&rt, alloc, CUSP, 1, 5, 6)
 }
 
 #[test]

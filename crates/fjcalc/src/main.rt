@@ -1,10 +1,12 @@
-//! `fjcalc`: reads a session from standard input and answers it on standard output. What is written, and each status,
-//! is `fj_session::run`'s own; status 8 is main's, where the system doesn't give the words.
+//! `fjcalc`: reads a session from standard input, or makes one, and answers it on standard output; an auditor that checks
+//! each certificate again and one that counts them are shown those of the answers. What is written, and each status, is
+//! `fj_session::run`'s own; status 8 is main's, where the system doesn't give the words.
 #![tactic(auto)]
 
+use fj_audit::{Auditor, Recheck, Tally};
 use fj_io::{StdSink, StdSource};
 use fj_session::run;
-use std::alloc::AllocError;
+use std::alloc::{AllocError, Global};
 use std::env::{self, Args};
 use std::io::ErrorKind;
 use std::process::ExitCode;
@@ -15,19 +17,29 @@ const NO_MEMORY: u8 = 6;
 /// The system didn't give the words.
 const NO_WORDS: u8 = 8;
 
+/// The auditors of the program, in the order of their lines.
+fn auditors(alloc: Global) -> Result<Vec<Box<dyn Auditor>>, AllocError> {
+    let mut auditors: Vec<Box<dyn Auditor>> = Vec::new(alloc);
+    auditors.push(Box::new(alloc, Recheck::new())?)?;
+    auditors.push(Box::new(alloc, Tally::new())?)?;
+    Ok(auditors)
+}
+
 /// Runs over the words behind the program's name, and answers the status.
 fn run_with(rt: &HostRuntime, args: Args) -> Result<u8, AllocError> {
-    let mut texts = Vec::new(rt.alloc());
+    let alloc = rt.alloc();
+    let mut texts = Vec::new(alloc);
     for text in args.skip(1) {
         texts.push(text)?;
     }
-    let mut words = Vec::new(rt.alloc());
+    let mut words = Vec::new(alloc);
     for text in &texts {
         words.push(text.as_str())?;
     }
+    let mut auditors = auditors(alloc)?;
     let mut source = StdSource::new(rt.stdin());
     let mut sink = StdSink::new(rt.stdout());
-    Ok(run(rt.alloc(), &words, &mut source, &mut sink))
+    Ok(run(alloc, &words, &mut source, &mut sink, &mut auditors))
 }
 
 fn main(rt: HostRuntime) -> ExitCode {

@@ -3,8 +3,8 @@ ghost use Rattle.fj_basis.specs.Basis.{IsMadeOf, unit_rows};
 
 use super::Basis;
 use crate::cofactors::row_of_one;
-use crate::handed::look_over;
 use crate::members::Row;
+use crate::sugar::look_over;
 use fj_coeff::Coeff;
 use fj_mono::Order;
 use fj_poly::Poly;

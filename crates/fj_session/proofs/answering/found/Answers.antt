@@ -1,14 +1,14 @@
-use Rattle.std.proofs.Common.{◌≡◌, ◌≤◌, ◌^◌, ◌∙◌, ℕ, List, length, ap, subst, sym, refl}
-use Rattle.std.proofs.lemmas.Result.{IfOk-weaker}
+use Rattle.std.proofs.Common.{◌≡◌, ◌∷◌, [], ◌≤◌, ◌^◌, ◌∙◌, ℕ, List, length, ap, subst, sym, refl}
 use Rattle.fj_coeff.specs.Field.{Field}
 use Rattle.fj_plain.specs.declared.order_name.OrderName.TheVariants.{Grevlex}
-use Rattle.fj_ideal.specs.Ideal.{IsIdealOf}
 use Rattle.fj_ideal.specs.Lists.{RunFor}
 use Rattle.fj_script.specs.declared.question.Question.TheVariants as questions
-use Rattle.fj_shell.specs.Named.{ideal_at, point_at, polynomial_at}
-use Rattle.fj_shell.proofs.Known.{basis_question, colon_question, compatible_question, is_jump_question, jumps_question, left_question, meet_question, member_question, nu_question, parts_question, power_question, product_question, pure_at_question, pure_question, regular_question, root_question, same_question, split_question, sum_question, test_question, threshold_at_question, threshold_question}
-use Rattle.fj_session.specs.Outcome.{IsIdealFor}
-use Rattle.fj_session.proofs.Printed.{declared_for, found_as, found_ideal, found_purity, found_verdict}
+use Rattle.fj_shell.specs.Named.{point_at, polynomial_at}
+use Rattle.fj_session.specs.Names.{standing_in, values_kept}
+use Rattle.fj_session.specs.Standing as question
+use Rattle.fj_session.proofs.Stated.{first_at_hand, second_at_hand, sound_as}
+use Rattle.fj_shell.proofs.Known.{compatible_question, is_jump_question, jumps_question, member_question, nu_question, parts_question, pure_at_question, regular_question, root_question, threshold_at_question, threshold_question}
+use Rattle.fj_session.proofs.Printed.{found_as, found_purity, found_root, found_same, found_verdict}
 use Rattle.fj_thresh.specs.Answer.{IsPointAnswer, IsThresholdAnswer}
 use Rattle.fj_thresh.specs.Lists.{IsHighInPointThreshold, IsHighInThreshold, IsPointThresholdList}
 use Rattle.fj_session.specs.Thresholds.{IsListOfThreshold}
@@ -17,264 +17,197 @@ use Rattle.fj_session.proofs.Numbers.{found_nu, found_threshold}
 use Rattle.fj_session.proofs.answering.found.Goals as goal
 
 pub polynomial_at-f-requires : goal.polynomial_at-f-requires
-polynomial_at-f-requires g c = (parts_question c.args.env.now c.args.asked.now c.in-Parts.e c.in-Parts.f c.requires.session c.in-Parts.is).poly
+polynomial_at-f-requires g c = (parts_question c.args.names.now.env.now c.args.asked.now c.in-Parts.e c.in-Parts.f c.requires.session c.in-Parts.is).poly
 
 pub part_rows-requires-clause-small : goal.part_rows-requires-clause-small
-part_rows-requires-clause-small g c = (parts_question c.args.env.now c.args.asked.now c.in-Parts.e c.in-Parts.f c.requires.session c.in-Parts.is).small
-
-pub declared-requires-clause-named : goal.declared-requires-clause-named
-declared-requires-clause-named g c = basis_question c.args.env.now c.args.asked.now c.in-Basis.j c.requires.session c.in-Basis.is
-
-pub returns-in-Basis : goal.returns-in-Basis
-returns-in-Basis g c =
-    found_as g.K.Coeff.field c.args.env.now c.args.asked.now (questions.Basis c.in-Basis.j) c.in-Basis.is c.printed.result
-    (found_ideal g.met.K.Coeff.lawful _ _ _ _ _ c.declared.result c.printed.result c.printed.ensures (IfOk-weaker c.declared.result (IsIdealOf g.K.Coeff.field (ideal_at c.args.env.now c.in-Basis.j)) (IsIdealFor g.K.Coeff.field (λ M. M ≡ ideal_at c.args.env.now c.in-Basis.j)) (λ I is. declared_for g.met.K.Coeff.lawful is) c.declared.ensures.ideal) c.declared.ensures.stop)
+part_rows-requires-clause-small g c = (parts_question c.args.names.now.env.now c.args.asked.now c.in-Parts.e c.in-Parts.f c.requires.session c.in-Parts.is).small
 
 pub is_member-requires-clause-polynomial : goal.is_member-requires-clause-polynomial
-is_member-requires-clause-polynomial g c = (member_question c.args.env.now c.args.asked.now c.in-Member.f c.in-Member.j c.requires.session c.in-Member.is).0
+is_member-requires-clause-polynomial g c = (member_question c.args.names.now.env.now c.args.asked.now c.in-Member.f c.in-Member.j c.requires.session c.in-Member.is).0
 
 pub is_member-requires-clause-named : goal.is_member-requires-clause-named
-is_member-requires-clause-named g c = (member_question c.args.env.now c.args.asked.now c.in-Member.f c.in-Member.j c.requires.session c.in-Member.is).1
+is_member-requires-clause-named g c =
+    let q = questions.Member c.in-Member.f c.in-Member.j in
+    second_at_hand c.args.names.now (question.asked c.args.asked.now c.requires.session refl) c.requires.at_hand q c.in-Member.is c.in-Member.f c.in-Member.j refl (sound_as c.args.names.now.env.now (question.asked c.args.asked.now c.requires.session refl) q c.in-Member.is).1
 
 pub returns-in-Member : goal.returns-in-Member
 returns-in-Member g c =
-    found_as g.K.Coeff.field c.args.env.now c.args.asked.now (questions.Member c.in-Member.f c.in-Member.j) c.in-Member.is c.judged.result
+    found_as g.K.Coeff.field c.args.names.now.env.now (values_kept c.args.names.now.lets.items) c.args.asked.now (questions.Member c.in-Member.f c.in-Member.j) c.in-Member.is c.judged.result
     (found_verdict _ _ _ _ _ _ c.is_member.result c.judged.result c.judged.ensures c.is_member.ensures.verdict c.is_member.ensures.stop)
 
-pub are_same-requires-clause-first : goal.are_same-requires-clause-first
-are_same-requires-clause-first g c = (same_question c.args.env.now c.args.asked.now c.in-Same.j c.in-Same.k c.requires.session c.in-Same.is).0
+pub same-requires-clause-first : goal.same-requires-clause-first
+same-requires-clause-first g c =
+    let q = questions.Same c.in-Same.j c.in-Same.k in
+    first_at_hand c.args.names.now (question.asked c.args.asked.now c.requires.session refl) c.requires.at_hand q c.in-Same.is c.in-Same.j (c.in-Same.k ∷ []) refl (sound_as c.args.names.now.env.now (question.asked c.args.asked.now c.requires.session refl) q c.in-Same.is).0
 
-pub are_same-requires-clause-second : goal.are_same-requires-clause-second
-are_same-requires-clause-second g c = (same_question c.args.env.now c.args.asked.now c.in-Same.j c.in-Same.k c.requires.session c.in-Same.is).1
+pub same-requires-clause-second : goal.same-requires-clause-second
+same-requires-clause-second g c =
+    let q = questions.Same c.in-Same.j c.in-Same.k in
+    second_at_hand c.args.names.now (question.asked c.args.asked.now c.requires.session refl) c.requires.at_hand q c.in-Same.is c.in-Same.j c.in-Same.k refl (sound_as c.args.names.now.env.now (question.asked c.args.asked.now c.requires.session refl) q c.in-Same.is).1
 
 pub returns-in-Same : goal.returns-in-Same
 returns-in-Same g c =
-    found_as g.K.Coeff.field c.args.env.now c.args.asked.now (questions.Same c.in-Same.j c.in-Same.k) c.in-Same.is c.judged-in-Same.result
-    (found_verdict _ _ _ _ _ _ c.are_same.result c.judged-in-Same.result c.judged-in-Same.ensures c.are_same.ensures.verdict c.are_same.ensures.stop)
-
-pub sum-requires-clause-first : goal.sum-requires-clause-first
-sum-requires-clause-first g c = (sum_question c.args.env.now c.args.asked.now c.in-Sum.j c.in-Sum.k c.requires.session c.in-Sum.is).0
-
-pub sum-requires-clause-second : goal.sum-requires-clause-second
-sum-requires-clause-second g c = (sum_question c.args.env.now c.args.asked.now c.in-Sum.j c.in-Sum.k c.requires.session c.in-Sum.is).1
-
-pub returns-in-Sum : goal.returns-in-Sum
-returns-in-Sum g c =
-    found_as g.K.Coeff.field c.args.env.now c.args.asked.now (questions.Sum c.in-Sum.j c.in-Sum.k) c.in-Sum.is c.printed-in-Sum.result
-    (found_ideal g.met.K.Coeff.lawful _ _ _ _ _ c.sum.result c.printed-in-Sum.result c.printed-in-Sum.ensures c.sum.ensures.ideal c.sum.ensures.stop)
-
-pub product-requires-clause-first : goal.product-requires-clause-first
-product-requires-clause-first g c = (product_question c.args.env.now c.args.asked.now c.in-Product.j c.in-Product.k c.requires.session c.in-Product.is).0
-
-pub product-requires-clause-second : goal.product-requires-clause-second
-product-requires-clause-second g c = (product_question c.args.env.now c.args.asked.now c.in-Product.j c.in-Product.k c.requires.session c.in-Product.is).1
-
-pub returns-in-Product : goal.returns-in-Product
-returns-in-Product g c =
-    found_as g.K.Coeff.field c.args.env.now c.args.asked.now (questions.Product c.in-Product.j c.in-Product.k) c.in-Product.is c.printed-in-Product.result
-    (found_ideal g.met.K.Coeff.lawful _ _ _ _ _ c.product.result c.printed-in-Product.result c.printed-in-Product.ensures c.product.ensures.ideal c.product.ensures.stop)
-
-pub meet-requires-clause-first : goal.meet-requires-clause-first
-meet-requires-clause-first g c = (meet_question c.args.env.now c.args.asked.now c.in-Meet.j c.in-Meet.k c.requires.session c.in-Meet.is).0
-
-pub meet-requires-clause-second : goal.meet-requires-clause-second
-meet-requires-clause-second g c = (meet_question c.args.env.now c.args.asked.now c.in-Meet.j c.in-Meet.k c.requires.session c.in-Meet.is).1
-
-pub returns-in-Meet : goal.returns-in-Meet
-returns-in-Meet g c =
-    found_as g.K.Coeff.field c.args.env.now c.args.asked.now (questions.Meet c.in-Meet.j c.in-Meet.k) c.in-Meet.is c.printed-in-Meet.result
-    (found_ideal g.met.K.Coeff.lawful _ _ _ _ _ c.meet.result c.printed-in-Meet.result c.printed-in-Meet.ensures c.meet.ensures.ideal c.meet.ensures.stop)
-
-pub colon-requires-clause-first : goal.colon-requires-clause-first
-colon-requires-clause-first g c = (colon_question c.args.env.now c.args.asked.now c.in-Colon.j c.in-Colon.k c.requires.session c.in-Colon.is).0
-
-pub colon-requires-clause-second : goal.colon-requires-clause-second
-colon-requires-clause-second g c = (colon_question c.args.env.now c.args.asked.now c.in-Colon.j c.in-Colon.k c.requires.session c.in-Colon.is).1
-
-pub returns-in-Colon : goal.returns-in-Colon
-returns-in-Colon g c =
-    found_as g.K.Coeff.field c.args.env.now c.args.asked.now (questions.Colon c.in-Colon.j c.in-Colon.k) c.in-Colon.is c.printed-in-Colon.result
-    (found_ideal g.met.K.Coeff.lawful _ _ _ _ _ c.colon.result c.printed-in-Colon.result c.printed-in-Colon.ensures c.colon.ensures.ideal c.colon.ensures.stop)
-
-pub power-requires-clause-small : goal.power-requires-clause-small
-power-requires-clause-small g c = (power_question c.args.env.now c.args.asked.now c.in-Power.e c.in-Power.j c.requires.session c.in-Power.is).0
-
-pub power-requires-clause-named : goal.power-requires-clause-named
-power-requires-clause-named g c = (power_question c.args.env.now c.args.asked.now c.in-Power.e c.in-Power.j c.requires.session c.in-Power.is).1
-
-pub returns-in-Power : goal.returns-in-Power
-returns-in-Power g c =
-    found_as g.K.Coeff.field c.args.env.now c.args.asked.now (questions.Power c.in-Power.e c.in-Power.j) c.in-Power.is c.printed-in-Power.result
-    (found_ideal g.met.K.Coeff.lawful _ _ _ _ _ c.power.result c.printed-in-Power.result c.printed-in-Power.ensures c.power.ensures.ideal c.power.ensures.stop)
-
-pub root-requires-clause-small : goal.root-requires-clause-small
-root-requires-clause-small g c = (root_question c.args.env.now c.args.asked.now c.in-Root.e c.in-Root.j c.requires.session c.in-Root.is).0
-
-pub root-requires-clause-named : goal.root-requires-clause-named
-root-requires-clause-named g c = (root_question c.args.env.now c.args.asked.now c.in-Root.e c.in-Root.j c.requires.session c.in-Root.is).1
+    found_as g.K.Coeff.field c.args.names.now.env.now (values_kept c.args.names.now.lets.items) c.args.asked.now (questions.Same c.in-Same.j c.in-Same.k) c.in-Same.is c.same.result
+    (found_same g.K.Coeff.field c.args.asked.now.order c.args.asked.now.budget (standing_in c.args.names.now c.in-Same.j) (standing_in c.args.names.now c.in-Same.k) c.same.result c.same.ensures.verdict c.same.ensures.stop)
 
 pub returns-in-Root : goal.returns-in-Root
 returns-in-Root g c =
-    found_as g.K.Coeff.field c.args.env.now c.args.asked.now (questions.Root c.in-Root.e c.in-Root.j) c.in-Root.is c.printed-in-Root.result
-    (found_ideal g.met.K.Coeff.lawful _ _ _ _ _ c.root.result c.printed-in-Root.result c.printed-in-Root.ensures c.root.ensures.ideal c.root.ensures.stop)
-
-pub test-requires-clause-named : goal.test-requires-clause-named
-test-requires-clause-named g c = (test_question c.args.env.now c.args.asked.now c.in-Test.f c.in-Test.t c.requires.session c.in-Test.is).0
-
-pub test-requires-clause-at_most : goal.test-requires-clause-at_most
-test-requires-clause-at_most g c = (test_question c.args.env.now c.args.asked.now c.in-Test.f c.in-Test.t c.requires.session c.in-Test.is).1.low
-
-pub returns-in-Test : goal.returns-in-Test
-returns-in-Test g c =
-    found_as g.K.Coeff.field c.args.env.now c.args.asked.now (questions.Test c.in-Test.f c.in-Test.t) c.in-Test.is c.printed-in-Test.result
-    (found_ideal g.met.K.Coeff.lawful _ _ _ _ _ c.test.result c.printed-in-Test.result c.printed-in-Test.ensures c.test.ensures.ideal c.test.ensures.stop)
-
-pub left-requires-clause-named : goal.left-requires-clause-named
-left-requires-clause-named g c = (left_question c.args.env.now c.args.asked.now c.in-Left.f c.in-Left.t c.requires.session c.in-Left.is).0
-
-pub left-requires-clause-above_zero : goal.left-requires-clause-above_zero
-left-requires-clause-above_zero g c = (left_question c.args.env.now c.args.asked.now c.in-Left.f c.in-Left.t c.requires.session c.in-Left.is).1.above refl
-
-pub left-requires-clause-at_most : goal.left-requires-clause-at_most
-left-requires-clause-at_most g c = (left_question c.args.env.now c.args.asked.now c.in-Left.f c.in-Left.t c.requires.session c.in-Left.is).1.low
-
-pub returns-in-Left : goal.returns-in-Left
-returns-in-Left g c =
-    found_as g.K.Coeff.field c.args.env.now c.args.asked.now (questions.Left c.in-Left.f c.in-Left.t) c.in-Left.is c.printed-in-Left.result
-    (found_ideal g.met.K.Coeff.lawful _ _ _ _ _ c.left.result c.printed-in-Left.result c.printed-in-Left.ensures c.left.ensures.ideal c.left.ensures.stop)
+    let asked = c.args.asked.now in
+    found_as g.K.Coeff.field c.args.names.now.env.now (values_kept c.args.names.now.lets.items) asked (questions.Root c.in-Root.e c.in-Root.j) c.in-Root.is c.printed_root.result
+    (found_root g.met.K.Coeff.lawful asked.order asked.budget c.in-Root.e (standing_in c.args.names.now c.in-Root.j) c.root_with_parts.result c.printed_root.result c.printed_root.ensures c.root_with_parts.ensures.ideal c.root_with_parts.ensures.parts c.root_with_parts.ensures.holds c.root_with_parts.ensures.stop)
 
 pub is_jump-requires-clause-named : goal.is_jump-requires-clause-named
-is_jump-requires-clause-named g c = (is_jump_question c.args.env.now c.args.asked.now c.in-IsJump.f c.in-IsJump.t c.requires.session c.in-IsJump.is).0
+is_jump-requires-clause-named g c = (is_jump_question c.args.names.now.env.now c.args.asked.now c.in-IsJump.f c.in-IsJump.t c.requires.session c.in-IsJump.is).0
 
 pub is_jump-requires-clause-above_zero : goal.is_jump-requires-clause-above_zero
-is_jump-requires-clause-above_zero g c = (is_jump_question c.args.env.now c.args.asked.now c.in-IsJump.f c.in-IsJump.t c.requires.session c.in-IsJump.is).1.above refl
+is_jump-requires-clause-above_zero g c = (is_jump_question c.args.names.now.env.now c.args.asked.now c.in-IsJump.f c.in-IsJump.t c.requires.session c.in-IsJump.is).1.above refl
 
 pub is_jump-requires-clause-at_most : goal.is_jump-requires-clause-at_most
-is_jump-requires-clause-at_most g c = (is_jump_question c.args.env.now c.args.asked.now c.in-IsJump.f c.in-IsJump.t c.requires.session c.in-IsJump.is).1.low
+is_jump-requires-clause-at_most g c = (is_jump_question c.args.names.now.env.now c.args.asked.now c.in-IsJump.f c.in-IsJump.t c.requires.session c.in-IsJump.is).1.low
 
 pub is_regular-requires-clause-named : goal.is_regular-requires-clause-named
-is_regular-requires-clause-named g c = (regular_question c.args.env.now c.args.asked.now c.in-Regular.f c.in-Regular.t c.requires.session c.in-Regular.is).0
+is_regular-requires-clause-named g c = (regular_question c.args.names.now.env.now c.args.asked.now c.in-Regular.f c.in-Regular.t c.requires.session c.in-Regular.is).0
 
 pub is_regular-requires-clause-at_most : goal.is_regular-requires-clause-at_most
-is_regular-requires-clause-at_most g c = (regular_question c.args.env.now c.args.asked.now c.in-Regular.f c.in-Regular.t c.requires.session c.in-Regular.is).1.low
+is_regular-requires-clause-at_most g c = (regular_question c.args.names.now.env.now c.args.asked.now c.in-Regular.f c.in-Regular.t c.requires.session c.in-Regular.is).1.low
+
+pub returns-in-IsJump : goal.returns-in-IsJump
+returns-in-IsJump g c =
+    found_as g.K.Coeff.field c.args.names.now.env.now (values_kept c.args.names.now.lets.items) c.args.asked.now (questions.IsJump c.in-IsJump.f c.in-IsJump.t) c.in-IsJump.is c.judged-in-IsJump.result
+    (found_verdict _ _ _ _ _ _ c.is_jump.result c.judged-in-IsJump.result c.judged-in-IsJump.ensures c.is_jump.ensures.verdict c.is_jump.ensures.stop)
+
+pub returns-in-Regular : goal.returns-in-Regular
+returns-in-Regular g c =
+    found_as g.K.Coeff.field c.args.names.now.env.now (values_kept c.args.names.now.lets.items) c.args.asked.now (questions.Regular c.in-Regular.f c.in-Regular.t) c.in-Regular.is c.judged-in-Regular.result
+    (found_verdict _ _ _ _ _ _ c.is_regular.result c.judged-in-Regular.result c.judged-in-Regular.ensures c.is_regular.ensures.verdict c.is_regular.ensures.stop)
 
 pub is_pure-requires-clause-named : goal.is_pure-requires-clause-named
-is_pure-requires-clause-named g c = pure_question c.args.env.now c.args.asked.now c.in-Pure.j c.requires.session c.in-Pure.is
+is_pure-requires-clause-named g c =
+    let q = questions.Pure c.in-Pure.j in
+    first_at_hand c.args.names.now (question.asked c.args.asked.now c.requires.session refl) c.requires.at_hand q c.in-Pure.is c.in-Pure.j [] refl (sound_as c.args.names.now.env.now (question.asked c.args.asked.now c.requires.session refl) q c.in-Pure.is)
 
 pub returns-in-Pure : goal.returns-in-Pure
 returns-in-Pure g c =
-    found_as g.K.Coeff.field c.args.env.now c.args.asked.now (questions.Pure c.in-Pure.j) c.in-Pure.is c.judged-in-Pure.result
+    found_as g.K.Coeff.field c.args.names.now.env.now (values_kept c.args.names.now.lets.items) c.args.asked.now (questions.Pure c.in-Pure.j) c.in-Pure.is c.judged-in-Pure.result
     (found_verdict _ _ _ _ _ _ c.is_pure.result c.judged-in-Pure.result c.judged-in-Pure.ensures c.is_pure.ensures.verdict c.is_pure.ensures.stop)
 
 pub is_pure_at-requires-clause-ideal : goal.is_pure_at-requires-clause-ideal
-is_pure_at-requires-clause-ideal g c = (pure_at_question c.args.env.now c.args.asked.now c.in-PureAt.j c.in-PureAt.at c.requires.session c.in-PureAt.is).0
+is_pure_at-requires-clause-ideal g c =
+    let q = questions.PureAt c.in-PureAt.j c.in-PureAt.at in
+    first_at_hand c.args.names.now (question.asked c.args.asked.now c.requires.session refl) c.requires.at_hand q c.in-PureAt.is c.in-PureAt.j (c.in-PureAt.at ∷ []) refl (sound_as c.args.names.now.env.now (question.asked c.args.asked.now c.requires.session refl) q c.in-PureAt.is).0
 
 pub is_pure_at-requires-clause-point : goal.is_pure_at-requires-clause-point
-is_pure_at-requires-clause-point g c = (pure_at_question c.args.env.now c.args.asked.now c.in-PureAt.j c.in-PureAt.at c.requires.session c.in-PureAt.is).1
+is_pure_at-requires-clause-point g c = (pure_at_question c.args.names.now.env.now c.args.asked.now c.in-PureAt.j c.in-PureAt.at c.requires.session c.in-PureAt.is).1
 
 pub returns-in-PureAt : goal.returns-in-PureAt
 returns-in-PureAt g c =
-    found_as g.K.Coeff.field c.args.env.now c.args.asked.now (questions.PureAt c.in-PureAt.j c.in-PureAt.at) c.in-PureAt.is c.is_pure_at.result
-    (found_purity _ _ _ _ _ c.is_pure_at.result c.is_pure_at.ensures.answer c.is_pure_at.ensures.stop)
-
-pub split-requires-clause-named : goal.split-requires-clause-named
-split-requires-clause-named g c = split_question c.args.env.now c.args.asked.now c.in-Split.j c.requires.session c.in-Split.is
-
-pub returns-in-Split : goal.returns-in-Split
-returns-in-Split g c =
-    found_as g.K.Coeff.field c.args.env.now c.args.asked.now (questions.Split c.in-Split.j) c.in-Split.is c.printed-in-Split.result
-    (found_ideal g.met.K.Coeff.lawful _ _ _ _ _ c.split.result c.printed-in-Split.result c.printed-in-Split.ensures c.split.ensures.ideal c.split.ensures.stop)
+    found_as g.K.Coeff.field c.args.names.now.env.now (values_kept c.args.names.now.lets.items) c.args.asked.now (questions.PureAt c.in-PureAt.j c.in-PureAt.at) c.in-PureAt.is c.alone.result
+    (found_purity _ _ _ _ _ c.is_pure_at.result c.alone.result c.alone.ensures c.is_pure_at.ensures.answer c.is_pure_at.ensures.stop)
 
 pub is_compatible-requires-clause-small : goal.is_compatible-requires-clause-small
-is_compatible-requires-clause-small g c = (compatible_question c.args.env.now c.args.asked.now c.in-Compatible.e c.in-Compatible.u c.in-Compatible.j c.requires.session c.in-Compatible.is).0
+is_compatible-requires-clause-small g c = (compatible_question c.args.names.now.env.now c.args.asked.now c.in-Compatible.e c.in-Compatible.u c.in-Compatible.j c.requires.session c.in-Compatible.is).0
 
 pub is_compatible-requires-clause-polynomial : goal.is_compatible-requires-clause-polynomial
-is_compatible-requires-clause-polynomial g c = (compatible_question c.args.env.now c.args.asked.now c.in-Compatible.e c.in-Compatible.u c.in-Compatible.j c.requires.session c.in-Compatible.is).1
+is_compatible-requires-clause-polynomial g c = (compatible_question c.args.names.now.env.now c.args.asked.now c.in-Compatible.e c.in-Compatible.u c.in-Compatible.j c.requires.session c.in-Compatible.is).1
 
 pub is_compatible-requires-clause-ideal : goal.is_compatible-requires-clause-ideal
-is_compatible-requires-clause-ideal g c = (compatible_question c.args.env.now c.args.asked.now c.in-Compatible.e c.in-Compatible.u c.in-Compatible.j c.requires.session c.in-Compatible.is).2
+is_compatible-requires-clause-ideal g c =
+    let q = questions.Compatible c.in-Compatible.e c.in-Compatible.u c.in-Compatible.j in
+    second_at_hand c.args.names.now (question.asked c.args.asked.now c.requires.session refl) c.requires.at_hand q c.in-Compatible.is c.in-Compatible.u c.in-Compatible.j refl (sound_as c.args.names.now.env.now (question.asked c.args.asked.now c.requires.session refl) q c.in-Compatible.is).2
 
 pub returns-in-Compatible : goal.returns-in-Compatible
 returns-in-Compatible g c =
-    found_as g.K.Coeff.field c.args.env.now c.args.asked.now (questions.Compatible c.in-Compatible.e c.in-Compatible.u c.in-Compatible.j) c.in-Compatible.is c.judged-in-Compatible.result
+    found_as g.K.Coeff.field c.args.names.now.env.now (values_kept c.args.names.now.lets.items) c.args.asked.now (questions.Compatible c.in-Compatible.e c.in-Compatible.u c.in-Compatible.j) c.in-Compatible.is c.judged-in-Compatible.result
     (found_verdict _ _ _ _ _ _ c.is_compatible.result c.judged-in-Compatible.result c.judged-in-Compatible.ensures c.is_compatible.ensures.verdict c.is_compatible.ensures.stop)
 
 pub nu-requires-clause-small : goal.nu-requires-clause-small
-nu-requires-clause-small g c = (nu_question c.args.env.now c.args.asked.now c.in-Nu.e c.in-Nu.f c.in-Nu.j c.requires.session c.in-Nu.is).0
+nu-requires-clause-small g c = (nu_question c.args.names.now.env.now c.args.asked.now c.in-Nu.e c.in-Nu.f c.in-Nu.j c.requires.session c.in-Nu.is).0
 
 pub nu-requires-clause-named : goal.nu-requires-clause-named
-nu-requires-clause-named g c = (nu_question c.args.env.now c.args.asked.now c.in-Nu.e c.in-Nu.f c.in-Nu.j c.requires.session c.in-Nu.is).1
+nu-requires-clause-named g c = (nu_question c.args.names.now.env.now c.args.asked.now c.in-Nu.e c.in-Nu.f c.in-Nu.j c.requires.session c.in-Nu.is).1
 
 pub nu-requires-clause-ideal : goal.nu-requires-clause-ideal
-nu-requires-clause-ideal g c = (nu_question c.args.env.now c.args.asked.now c.in-Nu.e c.in-Nu.f c.in-Nu.j c.requires.session c.in-Nu.is).2
+nu-requires-clause-ideal g c =
+    let q = questions.Nu c.in-Nu.e c.in-Nu.f c.in-Nu.j in
+    second_at_hand c.args.names.now (question.asked c.args.asked.now c.requires.session refl) c.requires.at_hand q c.in-Nu.is c.in-Nu.f c.in-Nu.j refl (sound_as c.args.names.now.env.now (question.asked c.args.asked.now c.requires.session refl) q c.in-Nu.is).2
 
 pub returns-in-Nu : goal.returns-in-Nu
 returns-in-Nu g c =
-    let f = polynomial_at c.args.env.now c.in-Nu.f in
-    let J = ideal_at c.args.env.now c.in-Nu.j in
-    found_as g.K.Coeff.field c.args.env.now c.args.asked.now (questions.Nu c.in-Nu.e c.in-Nu.f c.in-Nu.j) c.in-Nu.is c.nu.result
-    (found_nu g.K.Coeff.field c.in-Nu.e f J c.args.asked.now.order c.args.asked.now.budget c.nu.result c.nu.ensures.answer c.nu.ensures.stop)
+    let f = polynomial_at c.args.names.now.env.now c.in-Nu.f in
+    let J = standing_in c.args.names.now c.in-Nu.j in
+    found_as g.K.Coeff.field c.args.names.now.env.now (values_kept c.args.names.now.lets.items) c.args.asked.now (questions.Nu c.in-Nu.e c.in-Nu.f c.in-Nu.j) c.in-Nu.is c.alone-in-Nu.result
+    (found_nu g.K.Coeff.field c.in-Nu.e f J c.args.asked.now.order c.args.asked.now.budget c.nu.result c.alone-in-Nu.result c.alone-in-Nu.ensures c.nu.ensures.answer c.nu.ensures.stop)
 
 -- The limit of E, over the field of the session.
 small_level : {P p : ℕ} (e : ℕ) → P ≡ p → p ^ e ≤ 65536 → P ^ e ≤ 65536
 small_level e is low = subst (λ n. n ^ e ≤ 65536) (sym is) low
 
 pub jumps-requires-clause-named : goal.jumps-requires-clause-named
-jumps-requires-clause-named g c = (jumps_question c.args.env.now c.args.asked.now c.in-Jumps.f c.in-Jumps.e c.requires.session c.in-Jumps.is).0
+jumps-requires-clause-named g c = (jumps_question c.args.names.now.env.now c.args.asked.now c.in-Jumps.f c.in-Jumps.e c.requires.session c.in-Jumps.is).0
 
 pub jumps-requires-clause-positive : goal.jumps-requires-clause-positive
-jumps-requires-clause-positive g c = (jumps_question c.args.env.now c.args.asked.now c.in-Jumps.f c.in-Jumps.e c.requires.session c.in-Jumps.is).1.positive
+jumps-requires-clause-positive g c = (jumps_question c.args.names.now.env.now c.args.asked.now c.in-Jumps.f c.in-Jumps.e c.requires.session c.in-Jumps.is).1.positive
 
 pub jumps-requires-clause-small : goal.jumps-requires-clause-small
-jumps-requires-clause-small g c = small_level c.in-Jumps.e (g.met.K.Coeff.characteristic_is ∙ ap (λ (F : Field). F.characteristic) c.requires.field) (jumps_question c.args.env.now c.args.asked.now c.in-Jumps.f c.in-Jumps.e c.requires.session c.in-Jumps.is).1.low
+jumps-requires-clause-small g c = small_level c.in-Jumps.e (g.met.K.Coeff.characteristic_is ∙ ap (λ (F : Field). F.characteristic) c.requires.field) (jumps_question c.args.names.now.env.now c.args.asked.now c.in-Jumps.f c.in-Jumps.e c.requires.session c.in-Jumps.is).1.low
 
 pub returns-in-Jumps : goal.returns-in-Jumps
 returns-in-Jumps g c =
     let asked = c.args.asked.now in
-    found_as g.K.Coeff.field c.args.env.now asked (questions.Jumps c.in-Jumps.f c.in-Jumps.e) c.in-Jumps.is c.jumps.result
-    (found_jumps g.K.Coeff.field asked.order (polynomial_at c.args.env.now c.in-Jumps.f) c.in-Jumps.e asked.budget c.jumps.result c.jumps.ensures.answer c.jumps.ensures.stop)
+    found_as g.K.Coeff.field c.args.names.now.env.now (values_kept c.args.names.now.lets.items) asked (questions.Jumps c.in-Jumps.f c.in-Jumps.e) c.in-Jumps.is c.jumps.result
+    (found_jumps g.K.Coeff.field asked.order (polynomial_at c.args.names.now.env.now c.in-Jumps.f) c.in-Jumps.e asked.budget c.jumps.result c.jumps.ensures.answer c.jumps.ensures.certificates c.jumps.ensures.hold c.jumps.ensures.stop)
 
 pub threshold-requires-clause-named : goal.threshold-requires-clause-named
-threshold-requires-clause-named g c = (threshold_question c.args.env.now c.args.asked.now c.in-Threshold.f c.in-Threshold.j c.in-Threshold.e c.requires.session c.in-Threshold.is).0
+threshold-requires-clause-named g c = (threshold_question c.args.names.now.env.now c.args.asked.now c.in-Threshold.f c.in-Threshold.j c.in-Threshold.e c.requires.session c.in-Threshold.is).0
 
 pub threshold-requires-clause-ideal : goal.threshold-requires-clause-ideal
-threshold-requires-clause-ideal g c = (threshold_question c.args.env.now c.args.asked.now c.in-Threshold.f c.in-Threshold.j c.in-Threshold.e c.requires.session c.in-Threshold.is).1
+threshold-requires-clause-ideal g c =
+    let q = questions.Threshold c.in-Threshold.f c.in-Threshold.j c.in-Threshold.e in
+    second_at_hand c.args.names.now (question.asked c.args.asked.now c.requires.session refl) c.requires.at_hand q c.in-Threshold.is c.in-Threshold.f c.in-Threshold.j refl (sound_as c.args.names.now.env.now (question.asked c.args.asked.now c.requires.session refl) q c.in-Threshold.is).1
 
 pub threshold-requires-clause-positive : goal.threshold-requires-clause-positive
-threshold-requires-clause-positive g c = (threshold_question c.args.env.now c.args.asked.now c.in-Threshold.f c.in-Threshold.j c.in-Threshold.e c.requires.session c.in-Threshold.is).2.positive
+threshold-requires-clause-positive g c = (threshold_question c.args.names.now.env.now c.args.asked.now c.in-Threshold.f c.in-Threshold.j c.in-Threshold.e c.requires.session c.in-Threshold.is).2.positive
 
 pub threshold-requires-clause-small : goal.threshold-requires-clause-small
-threshold-requires-clause-small g c = small_level c.in-Threshold.e (g.met.K.Coeff.characteristic_is ∙ ap (λ (F : Field). F.characteristic) c.requires.field) (threshold_question c.args.env.now c.args.asked.now c.in-Threshold.f c.in-Threshold.j c.in-Threshold.e c.requires.session c.in-Threshold.is).2.low
+threshold-requires-clause-small g c = small_level c.in-Threshold.e (g.met.K.Coeff.characteristic_is ∙ ap (λ (F : Field). F.characteristic) c.requires.field) (threshold_question c.args.names.now.env.now c.args.asked.now c.in-Threshold.f c.in-Threshold.j c.in-Threshold.e c.requires.session c.in-Threshold.is).2.low
 
 pub returns-in-Threshold : goal.returns-in-Threshold
 returns-in-Threshold g c =
     let F = g.K.Coeff.field in
     let asked = c.args.asked.now in
     let e = c.in-Threshold.e in
-    let f = polynomial_at c.args.env.now c.in-Threshold.f in
-    let J = ideal_at c.args.env.now c.in-Threshold.j in
-    found_as F c.args.env.now asked (questions.Threshold c.in-Threshold.f c.in-Threshold.j e) c.in-Threshold.is c.threshold.result
-    (found_threshold (IsThresholdAnswer F e f J) F (RunFor Grevlex (IsListOfThreshold F e f J)) (IsHighInThreshold F e f J) asked.order asked.budget c.threshold.result c.threshold.ensures.answer c.threshold.ensures.stop)
+    let f = polynomial_at c.args.names.now.env.now c.in-Threshold.f in
+    let J = standing_in c.args.names.now c.in-Threshold.j in
+    found_as F c.args.names.now.env.now (values_kept c.args.names.now.lets.items) asked (questions.Threshold c.in-Threshold.f c.in-Threshold.j e) c.in-Threshold.is c.alone-in-Threshold.result
+    (found_threshold (IsThresholdAnswer F e f J.list) F (RunFor Grevlex (IsListOfThreshold F e f J)) (IsHighInThreshold F e f J.list) asked.order asked.budget c.threshold.result c.alone-in-Threshold.result c.alone-in-Threshold.ensures c.threshold.ensures.answer c.threshold.ensures.stop)
 
 pub threshold_at-requires-clause-named : goal.threshold_at-requires-clause-named
-threshold_at-requires-clause-named g c = (threshold_at_question c.args.env.now c.args.asked.now c.in-ThresholdAt.f c.in-ThresholdAt.at c.in-ThresholdAt.e c.requires.session c.in-ThresholdAt.is).0
+threshold_at-requires-clause-named g c = (threshold_at_question c.args.names.now.env.now c.args.asked.now c.in-ThresholdAt.f c.in-ThresholdAt.at c.in-ThresholdAt.e c.requires.session c.in-ThresholdAt.is).0
 
 pub threshold_at-requires-clause-point : goal.threshold_at-requires-clause-point
-threshold_at-requires-clause-point g c = (threshold_at_question c.args.env.now c.args.asked.now c.in-ThresholdAt.f c.in-ThresholdAt.at c.in-ThresholdAt.e c.requires.session c.in-ThresholdAt.is).1
+threshold_at-requires-clause-point g c = (threshold_at_question c.args.names.now.env.now c.args.asked.now c.in-ThresholdAt.f c.in-ThresholdAt.at c.in-ThresholdAt.e c.requires.session c.in-ThresholdAt.is).1
 
 pub threshold_at-requires-clause-positive : goal.threshold_at-requires-clause-positive
-threshold_at-requires-clause-positive g c = (threshold_at_question c.args.env.now c.args.asked.now c.in-ThresholdAt.f c.in-ThresholdAt.at c.in-ThresholdAt.e c.requires.session c.in-ThresholdAt.is).2.positive
+threshold_at-requires-clause-positive g c = (threshold_at_question c.args.names.now.env.now c.args.asked.now c.in-ThresholdAt.f c.in-ThresholdAt.at c.in-ThresholdAt.e c.requires.session c.in-ThresholdAt.is).2.positive
 
 pub threshold_at-requires-clause-small : goal.threshold_at-requires-clause-small
-threshold_at-requires-clause-small g c = small_level c.in-ThresholdAt.e (g.met.K.Coeff.characteristic_is ∙ ap (λ (F : Field). F.characteristic) c.requires.field) (threshold_at_question c.args.env.now c.args.asked.now c.in-ThresholdAt.f c.in-ThresholdAt.at c.in-ThresholdAt.e c.requires.session c.in-ThresholdAt.is).2.low
+threshold_at-requires-clause-small g c = small_level c.in-ThresholdAt.e (g.met.K.Coeff.characteristic_is ∙ ap (λ (F : Field). F.characteristic) c.requires.field) (threshold_at_question c.args.names.now.env.now c.args.asked.now c.in-ThresholdAt.f c.in-ThresholdAt.at c.in-ThresholdAt.e c.requires.session c.in-ThresholdAt.is).2.low
 
 pub returns-in-ThresholdAt : goal.returns-in-ThresholdAt
 returns-in-ThresholdAt g c =
     let F = g.K.Coeff.field in
     let asked = c.args.asked.now in
     let e = c.in-ThresholdAt.e in
-    let f = polynomial_at c.args.env.now c.in-ThresholdAt.f in
-    let n = length c.args.env.now.vars in
-    let P = point_at c.args.env.now c.in-ThresholdAt.at in
-    found_as F c.args.env.now asked (questions.ThresholdAt c.in-ThresholdAt.f c.in-ThresholdAt.at e) c.in-ThresholdAt.is c.threshold_at.result
-    (found_threshold (IsPointAnswer F e f n P) F (RunFor Grevlex (IsPointThresholdList F e f n P)) (IsHighInPointThreshold F e f n P) asked.order asked.budget c.threshold_at.result c.threshold_at.ensures.answer c.threshold_at.ensures.stop)
+    let f = polynomial_at c.args.names.now.env.now c.in-ThresholdAt.f in
+    let n = length c.args.names.now.env.now.vars in
+    let P = point_at c.args.names.now.env.now c.in-ThresholdAt.at in
+    found_as F c.args.names.now.env.now (values_kept c.args.names.now.lets.items) asked (questions.ThresholdAt c.in-ThresholdAt.f c.in-ThresholdAt.at e) c.in-ThresholdAt.is c.alone-in-ThresholdAt.result
+    (found_threshold (IsPointAnswer F e f n P) F (RunFor Grevlex (IsPointThresholdList F e f n P)) (IsHighInPointThreshold F e f n P) asked.order asked.budget c.threshold_at.result c.alone-in-ThresholdAt.result c.alone-in-ThresholdAt.ensures c.threshold_at.ensures.answer c.threshold_at.ensures.stop)
+
+pub root_with_parts-requires-clause-small : goal.root_with_parts-requires-clause-small
+root_with_parts-requires-clause-small g c = (root_question c.args.names.now.env.now c.args.asked.now c.in-Root.e c.in-Root.j c.requires.session c.in-Root.is).0
+
+pub root_with_parts-requires-clause-named : goal.root_with_parts-requires-clause-named
+root_with_parts-requires-clause-named g c =
+    let q = questions.Root c.in-Root.e c.in-Root.j in
+    first_at_hand c.args.names.now (question.asked c.args.asked.now c.requires.session refl) c.requires.at_hand q c.in-Root.is c.in-Root.j [] refl (sound_as c.args.names.now.env.now (question.asked c.args.asked.now c.requires.session refl) q c.in-Root.is).1

@@ -4,70 +4,71 @@ use Rattle.fj_plain.specs.declared.order_name.OrderName.TheVariants.{Elim}
 use Rattle.fj_ideal.specs.Ideal.{IsIdealOf}
 use Rattle.fj_ideal.specs.Lists.{RunFor}
 use Rattle.fj_ideal.proofs.Stops.{only_from_exactly, only_of_more}
-use Rattle.fj_elim.specs.Lists.{IsHighInMeet, IsMeetList}
-use Rattle.fj_shell.specs.Named.{ideal_at}
+use Rattle.fj_elim.specs.Lists.{IsEliminated, IsHighInMeet, IsMeetList}
 use Rattle.fj_session.specs.Ideals.{IsHighOfMeet, IsListOfMeet}
 use Rattle.fj_session.proofs.Declared.{members_lack}
 use Rattle.fj_session.proofs.Made.{made_of_two, of_bases, other_is, same_is}
+use Rattle.fj_session.specs.Names.{standing_in}
+use Rattle.fj_session.proofs.Standings.{there}
 use Rattle.fj_session.proofs.OwnStops.{declared_handed_on}
 use Rattle.fj_session.proofs.ideals.meet.Goals as goal
 
 pub meet-requires-clause-first : goal.meet-requires-clause-first
-meet-requires-clause-first g c = members_lack c.args.env.now c.len.ensures.names.few g.met.K.Coeff.lawful c.args.j c.requires.first c.in_ok-first.ensures.ideal
+meet-requires-clause-first g c = members_lack c.args.names.now c.len.ensures.names.few g.met.K.Coeff.lawful c.args.j c.requires.first (there c.in_ok-first.first c.ideal-first.ensures c.in_ok-first.ensures.ideal)
 
 pub meet-requires-clause-second : goal.meet-requires-clause-second
 meet-requires-clause-second g c =
-    members_lack c.args.env.now c.len.ensures.names.few g.met.K.Coeff.lawful c.args.k c.requires.second (other_is c.args.env.now c.args.j c.args.k c.in-Some.is c.in_ok-second.ensures.ideal)
+    members_lack c.args.names.now c.len.ensures.names.few g.met.K.Coeff.lawful c.args.k c.requires.second (other_is g.K.Coeff.field (λ n. (standing_in c.args.names.now n).list) c.args.j c.args.k c.in-Some.second c.in-Some.is c.ideal.ensures c.in_ok-second.ensures.ideal)
 
 pub meet-requires-in-None-clause-first : goal.meet-requires-in-None-clause-first
-meet-requires-in-None-clause-first g c = members_lack c.args.env.now c.len.ensures.names.few g.met.K.Coeff.lawful c.args.j c.requires.first c.in_ok-first.ensures.ideal
+meet-requires-in-None-clause-first g c = members_lack c.args.names.now c.len.ensures.names.few g.met.K.Coeff.lawful c.args.j c.requires.first (there c.in_ok-first.first c.ideal-first.ensures c.in_ok-first.ensures.ideal)
 
 pub meet-requires-in-None-clause-second : goal.meet-requires-in-None-clause-second
-meet-requires-in-None-clause-second g c = members_lack c.args.env.now c.len.ensures.names.few g.met.K.Coeff.lawful c.args.j c.requires.first c.in_ok-first.ensures.ideal
+meet-requires-in-None-clause-second g c = members_lack c.args.names.now c.len.ensures.names.few g.met.K.Coeff.lawful c.args.j c.requires.first (there c.in_ok-first.first c.ideal-first.ensures c.in_ok-first.ensures.ideal)
 
 pub returns-in_err-first-clause-stop : goal.returns-in_err-first-clause-stop
 returns-in_err-first-clause-stop g c =
     let F = g.K.Coeff.field in
-    let J = ideal_at c.args.env.now c.args.j in
-    let K = ideal_at c.args.env.now c.args.k in
-    declared_handed_on F c.args.budget (IsListOfMeet F J K) (IsHighOfMeet F J K) J (inl (refl, inl refl)) c.in_err-first.field-0.0 c.from_residual.result c.from_residual.ensures.1 c.in_err-first.ensures.stop
+    let J = standing_in c.args.names.now c.args.j in
+    let K = standing_in c.args.names.now c.args.k in
+    declared_handed_on F c.args.budget (IsListOfMeet F J K) (IsHighOfMeet F J.list K.list) J (λ M d. inl (refl, inl d)) c.in_err-first.field-0.0 c.from_residual.result c.from_residual.ensures.1 c.in_err-first.ensures.stop
 
 pub returns-in_err-second-clause-stop : goal.returns-in_err-second-clause-stop
 returns-in_err-second-clause-stop g c =
     let F = g.K.Coeff.field in
-    let J = ideal_at c.args.env.now c.args.j in
-    let K = ideal_at c.args.env.now c.args.k in
-    declared_handed_on F c.args.budget (IsListOfMeet F J K) (IsHighOfMeet F J K) K (inl (refl, inr refl)) c.in_err-second.field-0.0 c.from_residual-in_err-second.result c.from_residual-in_err-second.ensures.1
+    let J = standing_in c.args.names.now c.args.j in
+    let K = standing_in c.args.names.now c.args.k in
+    declared_handed_on F c.args.budget (IsListOfMeet F J K) (IsHighOfMeet F J.list K.list) K (λ M d. inl (refl, inr d)) c.in_err-second.field-0.0 c.from_residual-in_err-second.result c.from_residual-in_err-second.ensures.1
     c.in_err-second.ensures.stop
 
 pub returns-in-Some-clause-ideal : goal.returns-in-Some-clause-ideal
 returns-in-Some-clause-ideal g c =
-    made_of_two c.in_ok-first.ensures.ideal (other_is c.args.env.now c.args.j c.args.k c.in-Some.is c.in_ok-second.ensures.ideal) g.met.K.Coeff.lawful (IsMeet g.K.Coeff.field) c.meet.result c.meet.ensures.meet c.meet.ensures.ideal
+    made_of_two (there c.in_ok-first.first c.ideal-first.ensures c.in_ok-first.ensures.ideal) (other_is g.K.Coeff.field (λ n. (standing_in c.args.names.now n).list) c.args.j c.args.k c.in-Some.second c.in-Some.is c.ideal.ensures c.in_ok-second.ensures.ideal) g.met.K.Coeff.lawful (IsMeet g.K.Coeff.field) (IsEliminated g.K.Coeff.field) c.meet.result c.meet.ensures.meet c.meet.ensures.ideal c.meet.ensures.given
 
 pub returns-in-Some-clause-stop : goal.returns-in-Some-clause-stop
 returns-in-Some-clause-stop g c =
     let F = g.K.Coeff.field in
-    let J = ideal_at c.args.env.now c.args.j in
-    let K = ideal_at c.args.env.now c.args.k in
-    let G = c.in_ok-first.first.members in
-    let is_first = c.in_ok-first.ensures.ideal in
-    let second : IsIdealOf F K _ = other_is c.args.env.now c.args.j c.args.k c.in-Some.is c.in_ok-second.ensures.ideal in
-    only_of_more F c.args.budget (RunFor Elim (IsMeetList F G c.in-Some.second.members)) (IsListOfMeet F J K) (IsHighInMeet F G c.in-Some.second.members) (IsHighOfMeet F J K)
+    let J = standing_in c.args.names.now c.args.j in
+    let K = standing_in c.args.names.now c.args.k in
+    let G = c.ideal-first.result.now.members in
+    let is_first = (there c.in_ok-first.first c.ideal-first.ensures c.in_ok-first.ensures.ideal) in
+    let second : IsIdealOf F K.list _ = other_is g.K.Coeff.field (λ n. (standing_in c.args.names.now n).list) c.args.j c.args.k c.in-Some.second c.in-Some.is c.ideal.ensures c.in_ok-second.ensures.ideal in
+    only_of_more F c.args.budget (RunFor Elim (IsMeetList F G c.ideal.result.now.members)) (IsListOfMeet F J K) (IsHighInMeet F G c.ideal.result.now.members) (IsHighOfMeet F J.list K.list)
     (λ o M e. inr (e.0, of_bases is_first second (λ A B. IsMeetList F A B M) e.1)) (λ M e. of_bases is_first second (λ A B. IsHighInMeet F A B M) e) c.meet.result
-    (only_from_exactly F c.args.budget (RunFor Elim (IsMeetList F G c.in-Some.second.members)) (IsHighInMeet F G c.in-Some.second.members) c.meet.result c.meet.ensures.stop)
+    (only_from_exactly F c.args.budget (RunFor Elim (IsMeetList F G c.ideal.result.now.members)) (IsHighInMeet F G c.ideal.result.now.members) c.meet.result c.meet.ensures.stop)
 
 pub returns-clause-ideal : goal.returns-clause-ideal
 returns-clause-ideal g c =
-    made_of_two c.in_ok-first.ensures.ideal (same_is c.args.env.now c.args.j c.args.k c.in-None.is c.in_ok-second.ensures.ideal c.in_ok-first.ensures.ideal) g.met.K.Coeff.lawful (IsMeet g.K.Coeff.field) c.meet-in-None.result c.meet-in-None.ensures.meet c.meet-in-None.ensures.ideal
+    made_of_two (there c.in_ok-first.first c.ideal-first.ensures c.in_ok-first.ensures.ideal) (same_is g.K.Coeff.field (λ n. (standing_in c.args.names.now n).list) c.args.j c.args.k c.in-None.is c.in_ok-second.ensures.ideal (there c.in_ok-first.first c.ideal-first.ensures c.in_ok-first.ensures.ideal)) g.met.K.Coeff.lawful (IsMeet g.K.Coeff.field) (IsEliminated g.K.Coeff.field) c.meet-in-None.result c.meet-in-None.ensures.meet c.meet-in-None.ensures.ideal c.meet-in-None.ensures.given
 
 pub returns-clause-stop : goal.returns-clause-stop
 returns-clause-stop g c =
     let F = g.K.Coeff.field in
-    let J = ideal_at c.args.env.now c.args.j in
-    let K = ideal_at c.args.env.now c.args.k in
-    let G = c.in_ok-first.first.members in
-    let is_first = c.in_ok-first.ensures.ideal in
-    let second : IsIdealOf F K _ = same_is c.args.env.now c.args.j c.args.k c.in-None.is c.in_ok-second.ensures.ideal c.in_ok-first.ensures.ideal in
-    only_of_more F c.args.budget (RunFor Elim (IsMeetList F G c.in_ok-first.first.members)) (IsListOfMeet F J K) (IsHighInMeet F G c.in_ok-first.first.members) (IsHighOfMeet F J K)
+    let J = standing_in c.args.names.now c.args.j in
+    let K = standing_in c.args.names.now c.args.k in
+    let G = c.ideal-first.result.now.members in
+    let is_first = (there c.in_ok-first.first c.ideal-first.ensures c.in_ok-first.ensures.ideal) in
+    let second : IsIdealOf F K.list _ = same_is g.K.Coeff.field (λ n. (standing_in c.args.names.now n).list) c.args.j c.args.k c.in-None.is c.in_ok-second.ensures.ideal (there c.in_ok-first.first c.ideal-first.ensures c.in_ok-first.ensures.ideal) in
+    only_of_more F c.args.budget (RunFor Elim (IsMeetList F G c.ideal-first.result.now.members)) (IsListOfMeet F J K) (IsHighInMeet F G c.ideal-first.result.now.members) (IsHighOfMeet F J.list K.list)
     (λ o M e. inr (e.0, of_bases is_first second (λ A B. IsMeetList F A B M) e.1)) (λ M e. of_bases is_first second (λ A B. IsHighInMeet F A B M) e) c.meet-in-None.result
-    (only_from_exactly F c.args.budget (RunFor Elim (IsMeetList F G c.in_ok-first.first.members)) (IsHighInMeet F G c.in_ok-first.first.members) c.meet-in-None.result c.meet-in-None.ensures.stop)
+    (only_from_exactly F c.args.budget (RunFor Elim (IsMeetList F G c.ideal-first.result.now.members)) (IsHighInMeet F G c.ideal-first.result.now.members) c.meet-in-None.result c.meet-in-None.ensures.stop)

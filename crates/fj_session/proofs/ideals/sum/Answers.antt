@@ -1,45 +1,51 @@
-use Rattle.std.proofs.Common.{◌≡◌, inl, inr, sym, subst, refl}
-use Rattle.std.specs.Prelude.{MatchOption}
+use Rattle.std.proofs.Common.{◌≡◌, ◌++◌, inl, inr, sym, subst, refl}
 use Rattle.fj_ideal.specs.Ideal.{IsIdealOf}
 use Rattle.fj_ideal.specs.Lists.{IsSumList, NoProduct, OfBasis}
 use Rattle.fj_ideal.proofs.Lists.{of_members}
 use Rattle.fj_session.specs.Ideals.{IsListOfSum}
-use Rattle.fj_shell.specs.Named.{ideal_at}
+use Rattle.fj_session.proofs.Made.{list_of_two, other_is, same_is}
+use Rattle.fj_session.specs.Names.{standing_in}
+use Rattle.fj_session.proofs.Standings.{there}
 use Rattle.fj_session.proofs.OwnStops.{own_handed_on, own_of_exactly}
 use Rattle.fj_session.proofs.ideals.sum.Goals as goal
 
 pub returns-in_err-first-clause-stop : goal.returns-in_err-first-clause-stop
 returns-in_err-first-clause-stop g c =
     let F = g.K.Coeff.field in
-    let J = ideal_at c.args.env.now c.args.j in
-    own_handed_on F c.args.budget (IsListOfSum F J (ideal_at c.args.env.now c.args.k)) NoProduct J (inl refl) c.in_err-first.field-0.0 c.from_residual.result c.from_residual.ensures.1 c.in_err-first.ensures.stop
+    let J = standing_in c.args.names.now c.args.j in
+    own_handed_on F c.args.budget (IsListOfSum F J (standing_in c.args.names.now c.args.k)) NoProduct J (λ M d. inl (inl d)) c.in_err-first.field-0.0 c.from_residual.result c.from_residual.ensures.1 c.in_err-first.ensures.stop
 
 pub returns-in_err-second-clause-stop : goal.returns-in_err-second-clause-stop
 returns-in_err-second-clause-stop g c =
     let F = g.K.Coeff.field in
-    let K = ideal_at c.args.env.now c.args.k in
-    own_handed_on F c.args.budget (IsListOfSum F (ideal_at c.args.env.now c.args.j) K) NoProduct K (inr (inl refl)) c.in_err-second.field-0.0 c.from_residual-in_err-second.result c.from_residual-in_err-second.ensures.1 c.in_err-second.ensures.stop
+    let K = standing_in c.args.names.now c.args.k in
+    own_handed_on F c.args.budget (IsListOfSum F (standing_in c.args.names.now c.args.j) K) NoProduct K (λ M d. inl (inr d)) c.in_err-second.field-0.0 c.from_residual-in_err-second.result c.from_residual-in_err-second.ensures.1 c.in_err-second.ensures.stop
+
+pub returns-in-Some-clause-ideal : goal.returns-in-Some-clause-ideal
+returns-in-Some-clause-ideal g c =
+    list_of_two (there c.in_ok-first.first c.ideal-first.ensures c.in_ok-first.ensures.ideal) (other_is g.K.Coeff.field (λ n. (standing_in c.args.names.now n).list) c.args.j c.args.k c.in-Some.second c.in-Some.is c.ideal.ensures c.in_ok-second.ensures.ideal) (λ A B. A ++ B) c.sum.result c.sum.ensures.value c.sum.ensures.ideal
 
 pub returns-in-Some-clause-stop : goal.returns-in-Some-clause-stop
 returns-in-Some-clause-stop g c =
     let F = g.K.Coeff.field in
-    let env = c.args.env.now in
-    let K = ideal_at env c.args.k in
-    let G = c.in_ok-first.first.members in
-    let H = c.in-Some.second.members in
-    let second : IsIdealOf F K c.in-Some.second = subst (λ o. MatchOption o (c.args.k ≡ c.args.j) (IsIdealOf F K)) c.in-Some.is c.in_ok-second.ensures.ideal in
-    own_of_exactly F c.args.budget (IsListOfSum F (ideal_at env c.args.j) K) NoProduct (IsSumList G H) NoProduct
-    (λ M e. inr (inr (of_members c.in_ok-first.ensures.ideal (λ A. OfBasis F K (λ B. IsSumList A B M)) (of_members second (λ B. IsSumList G B M) e)))) (λ M none. none)
+    let K = standing_in c.args.names.now c.args.k in
+    let G = c.ideal-first.result.now.members in
+    let H = c.ideal.result.now.members in
+    let second : IsIdealOf F K.list c.ideal.result.now = other_is g.K.Coeff.field (λ n. (standing_in c.args.names.now n).list) c.args.j c.args.k c.in-Some.second c.in-Some.is c.ideal.ensures c.in_ok-second.ensures.ideal in
+    own_of_exactly F c.args.budget (IsListOfSum F (standing_in c.args.names.now c.args.j) K) NoProduct (IsSumList G H) NoProduct
+    (λ M e. inr (of_members (there c.in_ok-first.first c.ideal-first.ensures c.in_ok-first.ensures.ideal) (λ A. OfBasis F K.list (λ B. IsSumList A B M)) (of_members second (λ B. IsSumList G B M) e))) (λ M none. none)
     c.sum.result c.sum.ensures.stop
+
+pub returns-clause-ideal : goal.returns-clause-ideal
+returns-clause-ideal g c =
+    list_of_two (there c.in_ok-first.first c.ideal-first.ensures c.in_ok-first.ensures.ideal) (same_is g.K.Coeff.field (λ n. (standing_in c.args.names.now n).list) c.args.j c.args.k c.in-None.is c.in_ok-second.ensures.ideal (there c.in_ok-first.first c.ideal-first.ensures c.in_ok-first.ensures.ideal)) (λ A B. A ++ B) c.sum-in-None.result c.sum-in-None.ensures.value c.sum-in-None.ensures.ideal
 
 pub returns-clause-stop : goal.returns-clause-stop
 returns-clause-stop g c =
     let F = g.K.Coeff.field in
-    let env = c.args.env.now in
-    let K = ideal_at env c.args.k in
-    let G = c.in_ok-first.first.members in
-    let same : c.args.k ≡ c.args.j = subst (λ o. MatchOption o (c.args.k ≡ c.args.j) (IsIdealOf F K)) c.in-None.is c.in_ok-second.ensures.ideal in
-    let second : IsIdealOf F K c.in_ok-first.first = subst (λ n. IsIdealOf F (ideal_at env n) c.in_ok-first.first) (sym same) c.in_ok-first.ensures.ideal in
-    own_of_exactly F c.args.budget (IsListOfSum F (ideal_at env c.args.j) K) NoProduct (IsSumList G G) NoProduct
-    (λ M e. inr (inr (of_members c.in_ok-first.ensures.ideal (λ A. OfBasis F K (λ B. IsSumList A B M)) (of_members second (λ B. IsSumList G B M) e)))) (λ M none. none)
+    let K = standing_in c.args.names.now c.args.k in
+    let G = c.ideal-first.result.now.members in
+    let second : IsIdealOf F K.list c.ideal-first.result.now = same_is g.K.Coeff.field (λ n. (standing_in c.args.names.now n).list) c.args.j c.args.k c.in-None.is c.in_ok-second.ensures.ideal (there c.in_ok-first.first c.ideal-first.ensures c.in_ok-first.ensures.ideal) in
+    own_of_exactly F c.args.budget (IsListOfSum F (standing_in c.args.names.now c.args.j) K) NoProduct (IsSumList G G) NoProduct
+    (λ M e. inr (of_members (there c.in_ok-first.first c.ideal-first.ensures c.in_ok-first.ensures.ideal) (λ A. OfBasis F K.list (λ B. IsSumList A B M)) (of_members second (λ B. IsSumList G B M) e))) (λ M none. none)
     c.sum-in-None.result c.sum-in-None.ensures.stop

@@ -1,6 +1,5 @@
-use Rattle.std.proofs.Common.{◌≡◌, ◌≢◌, ◌∷◌, [], ◌++◌, ◌∙◌, All, Any, map, sym, ap, ap₂, subst}
+use Rattle.std.proofs.Common.{◌≡◌, ◌≢◌, ◌∷◌, [], ◌++◌, ◌∙◌, Any, map, sym, ap, ap₂}
 use Rattle.std.proofs.lemmas.List.{map-append}
-use Rattle.std.proofs.lemmas.List.Elements.{All-append, All-cons, All-nil}
 use Rattle.std.proofs.lemmas.Option.{get_or_from_slice_get, slice_get_within}
 use Rattle.fj_plain.specs.declared.order_name.OrderName.TheVariants.{Grevlex}
 use Rattle.fj_ideal.specs.Lists.{NoProduct, RunFor}
@@ -8,6 +7,7 @@ use Rattle.fj_ideal.proofs.Stops.{only_handed_on}
 use Rattle.fj_session.specs.Outcome.{ShowsSomeRow}
 use Rattle.fj_session.specs.declared.types.ShownJump.{ShownJump}
 use Rattle.fj_session.proofs.Places.{map_next}
+use Rattle.fj_session.proofs.Zips.{AllZip-push}
 use Rattle.fj_session.proofs.jumps.shown_jumps.Goals as goal
 
 pub returns-in_err-row-clause-stop : goal.returns-in_err-row-clause-stop
@@ -29,11 +29,13 @@ loop-place-preserved g c =
     let i = c.loop-place.place in
     let at = c.get.result.now in
     let row = c.in_ok-row.row in
+    let cert = c.in_ok-row.cert in
     let pushed = c.in_ok-push.ensures.items in
+    let also = c.in_ok-push-2.ensures.items in
     let Shows = ShowsSomeRow F c.args.order jumps in
-    let shows : ShowsSomeRow F c.args.order jumps row =
+    let shows : ShowsSomeRow F c.args.order jumps row cert =
     record { found = at; among = (i, slice_get_within jumps i at c.get.ensures, get_or_from_slice_get jumps i at at c.get.ensures); shows = c.in_ok-row.ensures.row } in (
       ap (λ l. map (λ (r : ShownJump). r.at) l) pushed ∙ map-append (λ (r : ShownJump). r.at) rows (row ∷ []) ∙ ap₂ (λ xs x. xs ++ x ∷ []) c.loop-place.invariant.0 c.in_ok-row.ensures.row.at
           ∙ sym (map_next (λ r. r.at) jumps i at c.get.ensures),
-      subst (All Shows) (sym pushed) (All-append Shows rows (row ∷ []) c.loop-place.invariant.1 (All-cons Shows row [] shows (All-nil Shows))),
+      AllZip-push Shows rows c.loop-place.certificates.items pushed also c.loop-place.invariant.1 shows,
     )

@@ -10,8 +10,11 @@ use Rattle.fj_ideal.specs.Lists.{IsHighPair, NoList, RunFor}
 use Rattle.fj_ideal.specs.Stop.{StopsOnlyWith}
 use Rattle.fj_ideal.proofs.Lists.{of_members}
 use Rattle.fj_ideal.proofs.Stops.{only_from_exactly, refused_only}
-use Rattle.fj_shell.specs.Named.{ideal_at, polynomial_at}
+use Rattle.fj_shell.specs.Named.{polynomial_at}
 use Rattle.fj_session.specs.Splittings.{IsHighOfCompatible}
+use Rattle.fj_session.specs.Standing.{IsDeclaredList}
+use Rattle.fj_session.specs.Names.{standing_in}
+use Rattle.fj_session.proofs.Standings.{there}
 use Rattle.fj_session.proofs.OwnStops.{declared_handed_on}
 use Rattle.fj_session.proofs.Verdicts.{decided}
 use Rattle.fj_session.proofs.splittings.is_compatible.Goals as goal
@@ -24,29 +27,29 @@ only_products F budget P R S f {T} (Err s) h = refused_only F budget P R S f {T 
 pub returns-in_err-ideal-clause-stop : goal.returns-in_err-ideal-clause-stop
 returns-in_err-ideal-clause-stop g c =
     let F = g.K.Coeff.field in
-    let J = ideal_at c.args.env.now c.args.j in
-    let IsHigh = IsHighOfCompatible F (polynomial_at c.args.env.now c.args.u) J in
-    declared_handed_on F c.args.budget (RunFor Grevlex (λ L. L ≡ J)) IsHigh J (refl, refl) c.in_err-ideal.field-0.0 c.from_residual.result c.from_residual.ensures.1 c.in_err-ideal.ensures.stop
+    let J = standing_in c.args.names.now c.args.j in
+    let IsHigh = IsHighOfCompatible F (polynomial_at c.args.names.now.env.now c.args.u) J.list in
+    declared_handed_on F c.args.budget (RunFor Grevlex (IsDeclaredList J)) IsHigh J (λ M d. (refl, d)) c.in_err-ideal.field-0.0 c.from_residual.result c.from_residual.ensures.1 c.in_err-ideal.ensures.stop
 
 pub returns-clause-verdict : goal.returns-clause-verdict
 returns-clause-verdict g c =
     let F = g.K.Coeff.field in
     let e = c.args.e in
-    let u = polynomial_at c.args.env.now c.args.u in
-    let J = ideal_at c.args.env.now c.args.j in
+    let u = polynomial_at c.args.names.now.env.now c.args.u in
+    let J = standing_in c.args.names.now c.args.j in
     let is = c.in_ok-multiplier.ensures.value ∙ c.polynomial_at.ensures.value in
     let IsIt : Polynomial → List Polynomial → Bool → Type 0 = λ v I b. IsTrue b ↔ IsCompatible F e v I in
-    IfOk-weaker c.compatible.result (IsIt c.in_ok-multiplier.multiplier c.in_ok-ideal.ideal.given) (λ b. MatchBool b (IsCompatible F e u J) (IsCompatible F e u J → ⊥))
-    (λ b h. decided b (subst (λ (v : Polynomial). IsIt v J b) is (subst (λ (I : List Polynomial). IsIt c.in_ok-multiplier.multiplier I b) (c.in_ok-ideal.ensures.ideal).given h))) c.compatible.ensures.value
+    IfOk-weaker c.compatible.result (IsIt c.in_ok-multiplier.multiplier c.ideal.result.now.given) (λ b. MatchBool b (IsCompatible F e u J.list) (IsCompatible F e u J.list → ⊥))
+    (λ b h. decided b (subst (λ (v : Polynomial). IsIt v J.list b) is (subst (λ (I : List Polynomial). IsIt c.in_ok-multiplier.multiplier I b) ((there c.in_ok-ideal.ideal c.ideal.ensures c.in_ok-ideal.ensures.ideal)).given h))) c.compatible.ensures.value
 
 pub returns-clause-stop : goal.returns-clause-stop
 returns-clause-stop g c =
     let F = g.K.Coeff.field in
-    let u = polynomial_at c.args.env.now c.args.u in
-    let J = ideal_at c.args.env.now c.args.j in
-    let G = c.in_ok-ideal.ideal.members in
+    let u = polynomial_at c.args.names.now.env.now c.args.u in
+    let J = standing_in c.args.names.now c.args.j in
+    let G = c.ideal.result.now.members in
     let is = c.in_ok-multiplier.ensures.value ∙ c.polynomial_at.ensures.value in
     let IsProduct : Polynomial → List Polynomial → Type 0 = λ v M. IsHighPair F (v ∷ []) G M in
-    only_products F c.args.budget (RunFor Grevlex (λ L. L ≡ J)) (IsProduct c.in_ok-multiplier.multiplier) (IsHighOfCompatible F u J)
-    (λ M e. of_members c.in_ok-ideal.ensures.ideal (λ H. IsHighPair F (u ∷ []) H M) (subst (λ (v : Polynomial). IsProduct v M) is e)) c.compatible.result
+    only_products F c.args.budget (RunFor Grevlex (IsDeclaredList J)) (IsProduct c.in_ok-multiplier.multiplier) (IsHighOfCompatible F u J.list)
+    (λ M e. of_members (there c.in_ok-ideal.ideal c.ideal.ensures c.in_ok-ideal.ensures.ideal) (λ H. IsHighPair F (u ∷ []) H M) (subst (λ (v : Polynomial). IsProduct v M) is e)) c.compatible.result
     (only_from_exactly F 0 NoList (IsProduct c.in_ok-multiplier.multiplier) c.compatible.result c.compatible.ensures.stop)

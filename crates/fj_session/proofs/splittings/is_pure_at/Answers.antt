@@ -6,9 +6,10 @@ use Rattle.fj_ideal.proofs.Stops.{only_handed_on}
 use Rattle.fj_fedder.specs.Fedder.{IsVerdictAt}
 use Rattle.fj_fedder.specs.Lists.{IsHighInSplit, IsListForColon, IsSplitList}
 use Rattle.fj_fedder.specs.declared.purity.PureAt.{PureAt}
-use Rattle.fj_shell.specs.Named.{ideal_at}
 use Rattle.fj_session.specs.Splittings.{IsHighOfSplit, IsListOfSplit}
 use Rattle.fj_session.proofs.Declared.{members_lack}
+use Rattle.fj_session.specs.Names.{standing_in}
+use Rattle.fj_session.proofs.Standings.{there}
 use Rattle.fj_session.proofs.OwnStops.{declared_handed_on}
 use Rattle.fj_session.proofs.splittings.is_pure_at.Goals as goal
 
@@ -17,20 +18,20 @@ same_verdict : (F : Field) {I J : List Polynomial} {p q : List ℕ} {v w : PureA
 same_verdict F {I} {J} {p} {q} {v} {w} e f is h = subst (IsVerdictAt F J q) is (subst (λ (x : List ℕ). IsVerdictAt F J x v) f (subst (λ (L : List Polynomial). IsVerdictAt F L p v) e h))
 
 pub is_pure_at-requires : goal.is_pure_at-requires
-is_pure_at-requires g c = members_lack c.args.env.now c.len.ensures.names.few g.met.K.Coeff.lawful c.args.j c.requires.ideal c.in_ok-ideal.ensures.ideal
+is_pure_at-requires g c = members_lack c.args.names.now c.len.ensures.names.few g.met.K.Coeff.lawful c.args.j c.requires.ideal (there c.in_ok-ideal.ideal c.ideal.ensures c.in_ok-ideal.ensures.ideal)
 
 pub returns-in_err-ideal-clause-stop : goal.returns-in_err-ideal-clause-stop
 returns-in_err-ideal-clause-stop g c =
     let F = g.K.Coeff.field in
-    let J = ideal_at c.args.env.now c.args.j in
-    declared_handed_on F c.args.budget (IsListOfSplit F J) (IsHighOfSplit F J) J (inl (refl, refl)) c.in_err-ideal.field-0.0 c.from_residual.result c.from_residual.ensures.1 c.in_err-ideal.ensures.stop
+    let J = standing_in c.args.names.now c.args.j in
+    declared_handed_on F c.args.budget (IsListOfSplit F J) (IsHighOfSplit F J.list) J (λ M d. inl (refl, d)) c.in_err-ideal.field-0.0 c.from_residual.result c.from_residual.ensures.1 c.in_err-ideal.ensures.stop
 
 pub returns-in_err-is_pure_at-clause-stop : goal.returns-in_err-is_pure_at-clause-stop
 returns-in_err-is_pure_at-clause-stop g c =
     let F = g.K.Coeff.field in
-    let J = ideal_at c.args.env.now c.args.j in
-    let G = c.in_ok-ideal.ideal.members in
-    let declared = c.in_ok-ideal.ensures.ideal in
-    only_handed_on F c.args.budget (IsListForColon F G) (IsListOfSplit F J) (IsHighInSplit F G) (IsHighOfSplit F J)
+    let J = standing_in c.args.names.now c.args.j in
+    let G = c.ideal.result.now.members in
+    let declared = (there c.in_ok-ideal.ideal c.ideal.ensures c.in_ok-ideal.ensures.ideal) in
+    only_handed_on F c.args.budget (IsListForColon F G) (IsListOfSplit F J) (IsHighInSplit F G) (IsHighOfSplit F J.list)
     (λ o M e. inr (of_members declared (λ H. IsSplitList F H o M) (inl e))) (λ M e. of_members declared (λ H. IsHighInSplit F H M) e)
     c.in_err-is_pure_at.field-0.0 c.from_residual-in_err-is_pure_at.result c.from_residual-in_err-is_pure_at.ensures.1 c.in_err-is_pure_at.ensures.stop

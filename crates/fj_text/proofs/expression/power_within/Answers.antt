@@ -1,25 +1,19 @@
-use Rattle.std.proofs.Common.{◌≡◌, ◌+◌, ◌-◌, Some, sym, ap, ap₂, ◌∙◌, arith}
-use Rattle.fj_theory.specs.Polynomial.{term}
+use Rattle.std.proofs.Common.{◌≡◌, ◌*◌, ◌<◌, ◌≤◌, unwrap_or, sym, ap, ◌∙◌, arith}
+use Rattle.fj_theory.specs.Polynomial.{degree}
 use Rattle.fj_text.specs.Expression.{power_within}
-use Rattle.fj_text.proofs.Values.{power-none, power-one, power-more, power-large}
+use Rattle.fj_text.proofs.Powers.{high_power, power_of_two_terms}
+use Rattle.fj_text.proofs.Values.{if_ok}
 use Rattle.fj_text.proofs.expression.power_within.Goals as goal
 
-pub returns-then-k-eq0 : goal.returns-then-k-eq0
-returns-then-k-eq0 g c =
-    let F = g.K.Coeff.field in
-    ap (λ p. Some p) (c.in_ok-term.ensures.value ∙ ap₂ term c.one.ensures c.one-then-k-eq0.ensures) ∙ sym (power-none F c.args.f.now) ∙ ap (power_within F c.args.f.now) (sym c.if-k-eq0.true)
+pub returns-then-saturating_mul-gt-MAX_DEGREE : goal.returns-then-saturating_mul-gt-MAX_DEGREE
+returns-then-saturating_mul-gt-MAX_DEGREE g c =
+    let same : c.unwrap_or.result * c.args.k ≡ unwrap_or (degree c.args.f.now) 0 * c.args.k = ap (λ n. n * c.args.k) (c.unwrap_or.ensures ∙ ap (λ o. unwrap_or o 0) c.degree.ensures.value) in
+    let high : 1000 < unwrap_or (degree c.args.f.now) 0 * c.args.k = omega (arith, same, c.saturating_mul.ensures, c.if-saturating_mul-gt-MAX_DEGREE.true) in
+    sym (high_power g.met.K.Coeff.lawful c.degree.ensures.polynomial c.args.k (omega (arith, c.if-k-lt2.false)) high)
 
-pub products-init : goal.products-init
-products-init g c = power-one g.K.Coeff.field c.args.f.now ∙ ap (λ p. Some p) (sym c.in_ok-power.ensures.value)
-
-pub products-preserved : goal.products-preserved
-products-preserved g c =
-    power-more g.K.Coeff.field c.args.f.now c.products._formed c.products.power c.products.auto._formed c.products.invariant ∙ sym c.in_ok-product.ensures ∙ c.in-Some.is
-
-pub returns-in_default : goal.returns-in_default
-returns-in_default g c =
-    let F = g.K.Coeff.field in
-    let i = c.products._formed in
-    let large = power-more F c.args.f.now i c.products.power c.products.auto._formed c.products.invariant ∙ sym c.in_ok-product.ensures ∙ c.in_default.is in
-    let up : i + 1 + (c.args.k - (i + 1)) ≡ c.args.k = omega (arith, c.products-test.true) in
-    sym (ap (power_within F c.args.f.now) (sym up) ∙ power-large F c.args.f.now (i + 1) (c.args.k - (i + 1)) (omega arith) large)
+pub returns : goal.returns
+returns g c =
+    let same : c.unwrap_or.result * c.args.k ≡ unwrap_or (degree c.args.f.now) 0 * c.args.k = ap (λ n. n * c.args.k) (c.unwrap_or.ensures ∙ ap (λ o. unwrap_or o 0) c.degree.ensures.value) in
+    let low : unwrap_or (degree c.args.f.now) 0 * c.args.k ≤ 1000 = omega (arith, same, c.saturating_mul.ensures, c.if-saturating_mul-gt-MAX_DEGREE.false) in
+    let last = power_of_two_terms g.met.K.Coeff.lawful c.degree.ensures.polynomial c.args.k (omega (arith, c.if-k-lt2.false)) (omega (arith, c.if-k-gt-MAX_EXPONENT.false)) low (omega (arith, c.len.ensures.count, c.if-len-gt2.false)) in
+    if_ok c.last_power_within.result _ _ (λ p is. is ∙ sym last) c.last_power_within.ensures

@@ -45,7 +45,7 @@ insert-requires-clause-pair g c =
     pair-over leads c.loop-i.self.leads c.args.lead.exponents c.new-pair.result i c.index.result.now.exponents c.loop-i.invariant.leads c.new-pair.ensures.first
     (c.new-pair.ensures.second ∙ before ∙ old)
     (ap (λ v. get_or v.leads i []) (sym c.self-in-loop-i.view_is)
-    ∙ row-at (λ m. m.exponents) c.self-in-loop-i.inside.leads.items i c.index.result.now (omega (arith, before, old, now, grown, more, less)) c.index.ensures) c.new-pair.ensures.multiple
+    ∙ row-at (λ m. m.exponents) c.self-in-loop-i.inside.leads.items i c.index.result.now (omega (arith, before, old, now, grown, more, less)) c.index.ensures) c.new-pair.ensures.lcm
 
 pub loop-i-preserved : goal.loop-i-preserved
 loop-i-preserved g c =
@@ -62,7 +62,7 @@ loop-i-preserved g c =
     let second = c.new-pair.ensures.second ∙ before ∙ old in
     let own = pair-over leads c.loop-i.self.leads c.args.lead.exponents c.new-pair.result i c.index.result.now.exponents c.loop-i.invariant.leads first second
     (ap (λ v. get_or v.leads i []) (sym c.self-in-loop-i.view_is)
-    ∙ row-at (λ m. m.exponents) c.self-in-loop-i.inside.leads.items i c.index.result.now (omega (arith, before, old, now, grown, more, less)) c.index.ensures) c.new-pair.ensures.multiple in
+    ∙ row-at (λ m. m.exponents) c.self-in-loop-i.inside.leads.items i c.index.result.now (omega (arith, before, old, now, grown, more, less)) c.index.ensures) c.new-pair.ensures.lcm in
     record {
       leads = c.in_ok-insert.ensures.leads ∙ c.loop-i.invariant.leads;
       pairs = subst₂ (λ ls ps. HasPairsUpTo ls n (i + 1) c.args.self.now.pairs ps) (sym c.in_ok-insert.ensures.leads) (sym c.in_ok-insert.ensures.pairs)

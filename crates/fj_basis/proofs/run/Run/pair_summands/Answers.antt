@@ -8,7 +8,7 @@ use Rattle.fj_basis.proofs.run.Run.pair_summands.Goals as goal
 
 pub unwrap-multiple-requires : goal.unwrap-multiple-requires
 unwrap-multiple-requires g c =
-    some_multiple g.K.Coeff.field g.O.Order.key (sugared_members c.args.self.now.members.items) c.args.pair.now c.requires.pair c.requires.low c.multiple.result c.multiple.ensures
+    some_multiple g.K.Coeff.field g.O.Order.key (sugared_members c.args.self.now.members.items) c.args.pair.now c.requires.pair c.requires.low c.lcm.result c.lcm.ensures
 
 pub summand-requires-clause-nonzero : goal.summand-requires-clause-nonzero
 summand-requires-clause-nonzero g c = nonzero_members c.args.self.now.members.items (state-good g.met.K.Coeff.lawful g.met.O.Order.monomial_order c.requires.state).nonzero
@@ -24,7 +24,7 @@ summand-requires-clause-divisor g c =
     let G = sugared_members items in
     let first = c.requires.first in
     let second = c.requires.second in
-    let is = multiple_is g.O.Order.key G c.args.pair.now c.requires.pair c.unwrap-multiple.result (sym c.unwrap-multiple.ensures ∙ c.multiple.ensures) in
+    let is = multiple_is g.O.Order.key G c.args.pair.now c.requires.pair c.unwrap-multiple.result (sym c.unwrap-multiple.ensures ∙ c.lcm.ensures) in
     subst₂ (λ k a. IsTrue (divides (lead_of g.O.Order.key G k) a)) (sym c.first.ensures) (sym is)
     (first-divides g.met.K.Coeff.lawful g.met.O.Order.monomial_order G (state-good g.met.K.Coeff.lawful g.met.O.Order.monomial_order c.requires.state) i j
     (places items i (omega (arith, first, second))) (places items j second))
@@ -37,7 +37,7 @@ summand-requires-2-clause-divisor g c =
     let G = sugared_members items in
     let first = c.requires.first in
     let second = c.requires.second in
-    let is = multiple_is g.O.Order.key G c.args.pair.now c.requires.pair c.unwrap-multiple.result (sym c.unwrap-multiple.ensures ∙ c.multiple.ensures) in
+    let is = multiple_is g.O.Order.key G c.args.pair.now c.requires.pair c.unwrap-multiple.result (sym c.unwrap-multiple.ensures ∙ c.lcm.ensures) in
     subst₂ (λ k a. IsTrue (divides (lead_of g.O.Order.key G k) a)) (sym c.second.ensures) (sym is)
     (second-divides g.met.K.Coeff.lawful g.met.O.Order.monomial_order G (state-good g.met.K.Coeff.lawful g.met.O.Order.monomial_order c.requires.state) i j
     (places items i (omega (arith, first, second))) (places items j second))
@@ -47,7 +47,7 @@ returns g c =
     let G = sugared_members c.args.self.now.members.items in
     let key = g.O.Order.key in
     let F = g.K.Coeff.field in
-    let is = multiple_is key G c.args.pair.now c.requires.pair c.unwrap-multiple.result (sym c.unwrap-multiple.ensures ∙ c.multiple.ensures) in
+    let is = multiple_is key G c.args.pair.now c.requires.pair c.unwrap-multiple.result (sym c.unwrap-multiple.ensures ∙ c.lcm.ensures) in
     record {
       first = c.in_ok-first.first;
       second = c.in_ok-second.second;

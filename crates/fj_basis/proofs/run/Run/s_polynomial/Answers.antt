@@ -14,7 +14,7 @@ returns-in_default-clause-high g c =
     let i = c.args.pair.now.i in
     let j = c.args.pair.now.j in
     let high : degree_limit < total (pair_multiple g.O.Order.key G (i, j)) =
-    subst (IsWithinLimit (pair_multiple g.O.Order.key G (i, j))) (sym c.multiple.ensures ∙ c.in_default.is) c.requires.pair.multiple in
+    subst (IsWithinLimit (pair_multiple g.O.Order.key G (i, j))) (sym c.lcm.ensures ∙ c.in_default.is) c.requires.pair.lcm in
     omega (arith, s-sugar g.K.Coeff.field g.O.Order.key G i j, high)
 
 pub above-requires-clause-nonzero : goal.above-requires-clause-nonzero
@@ -31,7 +31,7 @@ returns-then-sugar-gt-DEGREE_LIMIT-clause-high g c =
     let G = sugared_members c.args.self.now.members.items in
     let i = c.args.pair.now.i in
     let j = c.args.pair.now.j in
-    let own : c.in-Some.multiple.exponents ≡ pair_multiple key G (i, j) = subst (IsWithinLimit (pair_multiple key G (i, j))) (sym c.multiple.ensures ∙ c.in-Some.is) c.requires.pair.multiple in
+    let own : c.in-Some.multiple.exponents ≡ pair_multiple key G (i, j) = subst (IsWithinLimit (pair_multiple key G (i, j))) (sym c.lcm.ensures ∙ c.in-Some.is) c.requires.pair.lcm in
     let first : c.above.result ≡ (member_at G i).sugar - total (lead_of key G i) = c.above.ensures ∙ ap (λ k. (member_at G k).sugar - total (lead_of key G k)) c.first.ensures in
     let second : c.above-2.result ≡ (member_at G j).sugar - total (lead_of key G j) = c.above-2.ensures ∙ ap (λ k. (member_at G k).sugar - total (lead_of key G k)) c.second.ensures in
     let whole = ap total own in
@@ -43,7 +43,7 @@ multiple_of-requires-clause-divisor g c =
     let G = sugared_members c.args.self.now.members.items in
     let i = c.args.pair.now.i in
     let j = c.args.pair.now.j in
-    let own : c.in-Some.multiple.exponents ≡ pair_multiple key G (i, j) = subst (IsWithinLimit (pair_multiple key G (i, j))) (sym c.multiple.ensures ∙ c.in-Some.is) c.requires.pair.multiple in
+    let own : c.in-Some.multiple.exponents ≡ pair_multiple key G (i, j) = subst (IsWithinLimit (pair_multiple key G (i, j))) (sym c.lcm.ensures ∙ c.in-Some.is) c.requires.pair.lcm in
     let good = state-good g.met.K.Coeff.lawful g.met.O.Order.monomial_order c.requires.state in
     subst₂ (λ k a. IsTrue (divides (lead_of key G k) a)) (sym c.first-2.ensures) (sym own)
     (first-divides g.met.K.Coeff.lawful g.met.O.Order.monomial_order G good i j (places c.args.self.now.members.items i c.requires.first) (places c.args.self.now.members.items j c.requires.second))
@@ -54,7 +54,7 @@ multiple_of-requires-2-clause-divisor g c =
     let G = sugared_members c.args.self.now.members.items in
     let i = c.args.pair.now.i in
     let j = c.args.pair.now.j in
-    let own : c.in-Some.multiple.exponents ≡ pair_multiple key G (i, j) = subst (IsWithinLimit (pair_multiple key G (i, j))) (sym c.multiple.ensures ∙ c.in-Some.is) c.requires.pair.multiple in
+    let own : c.in-Some.multiple.exponents ≡ pair_multiple key G (i, j) = subst (IsWithinLimit (pair_multiple key G (i, j))) (sym c.lcm.ensures ∙ c.in-Some.is) c.requires.pair.lcm in
     let good = state-good g.met.K.Coeff.lawful g.met.O.Order.monomial_order c.requires.state in
     subst₂ (λ k a. IsTrue (divides (lead_of key G k) a)) (sym c.second-2.ensures) (sym own)
     (second-divides g.met.K.Coeff.lawful g.met.O.Order.monomial_order G good i j (places c.args.self.now.members.items i c.requires.first) (places c.args.self.now.members.items j c.requires.second))
@@ -67,7 +67,7 @@ returns-clause-value g c =
     let G = sugared_members c.args.self.now.members.items in
     let i = c.args.pair.now.i in
     let j = c.args.pair.now.j in
-    let own : c.in-Some.multiple.exponents ≡ pair_multiple key G (i, j) = subst (IsWithinLimit (pair_multiple key G (i, j))) (sym c.multiple.ensures ∙ c.in-Some.is) c.requires.pair.multiple in
+    let own : c.in-Some.multiple.exponents ≡ pair_multiple key G (i, j) = subst (IsWithinLimit (pair_multiple key G (i, j))) (sym c.lcm.ensures ∙ c.in-Some.is) c.requires.pair.lcm in
     let first : c.above.result ≡ (member_at G i).sugar - total (lead_of key G i) = c.above.ensures ∙ ap (λ k. (member_at G k).sugar - total (lead_of key G k)) c.first.ensures in
     let second : c.above-2.result ≡ (member_at G j).sugar - total (lead_of key G j) = c.above-2.ensures ∙ ap (λ k. (member_at G k).sugar - total (lead_of key G k)) c.second.ensures in
     let whole = ap total own in

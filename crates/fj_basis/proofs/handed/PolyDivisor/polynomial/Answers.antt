@@ -1,7 +1,0 @@
-use Rattle.std.proofs.Common.{refl}
-use Rattle.fj_groebner.specs.Run.{given}
-use Rattle.fj_basis.proofs.handed.PolyDivisor.polynomial.Goals as goal
-
-pub returns : goal.returns
-unfolding given
-returns g c = refl
