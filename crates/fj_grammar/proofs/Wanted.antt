@@ -220,6 +220,12 @@ generators_optional = record { is = λ t ws. elim t as (λ t. step t (Generators
 pub coordinates_optional : IsOptional comma Coordinates (λ ws. a_coordinate (Coordinates ∷ ws))
 coordinates_optional = record { is = λ t ws. elim t as (λ t. step t (Coordinates ∷ ws) ≡ cond (is_the_sign comma t) (Some (a_coordinate (Coordinates ∷ ws))) (step t ws)) [ Word v ↦ refl | Number n ↦ refl | Sign c ↦ refl | BadByte ↦ refl ] }
 
+pub mark_step : (ws : List Want) (b : ℕ) (tok : Token) → is_the_sign b tok ≡ true → step tok (Mark b ∷ ws) ≡ Some ws
+mark_step ws b (Word w) is = absurd cc
+mark_step ws b (Number n) is = absurd cc
+mark_step ws b (Sign c) is = ap (λ x. cond x (Some ws) None) is
+mark_step ws b BadByte is = absurd cc
+
 pub plus_step : (ws : List Want) (tok : Token) → is_the_sign plus tok ≡ true → step tok (Summands ∷ ws) ≡ Some (a_term (Summands ∷ ws))
 plus_step ws (Word w) is = absurd cc
 plus_step ws (Number n) is = absurd cc

@@ -36,7 +36,7 @@ use Rattle.fj_script.specs.Session.{Session, Terms, Poly, Ideal, Point, Let, ask
 use Rattle.fj_script.specs.Statement as statements
 use Rattle.fj_grammar.proofs.Beginnings.{end_last, toks}
 use Rattle.fj_grammar.proofs.TwoReadings.{line_from, mapped}
-use Rattle.fj_grammar.proofs.Wanted.{MayEnd, NotNext, Want, Beginning, Coordinates, Denominator, Factors, Generators, Mark, Name, Negative, Numeral, Operand, OrderWord, PerhapsName, Power, QuestionWord, IdealWord, Summands, Variables, a_coordinate, a_term, an_expression, IsOptional, coordinates_optional, denominator_optional, factors_optional, generators_optional, left_none, minus_step, negative_optional, neither_step, none_left, on_sign, others_end, plus_step, power_optional, run, run_behind, step, still_wanted, variables_optional, wants_of_ask, wants_of_keyword}
+use Rattle.fj_grammar.proofs.Wanted.{MayEnd, NotNext, Want, Beginning, Coordinates, Denominator, Factors, Generators, Mark, Name, Negative, Numeral, Operand, OrderWord, PerhapsName, Power, QuestionWord, IdealWord, Summands, Variables, a_coordinate, a_term, an_expression, IsOptional, coordinates_optional, denominator_optional, factors_optional, generators_optional, left_none, mark_step, minus_step, negative_optional, neither_step, none_left, on_sign, others_end, plus_step, power_optional, run, run_behind, step, still_wanted, variables_optional, wants_of_ask, wants_of_keyword}
 
 -- a line was read from the state s0 on, where this was wanted first
 module _ (s0 : State) (first : List Want) where
@@ -235,12 +235,6 @@ module _ (s0 : State) (first : List Want) where
       by (Number n) is = inl refl
       by (Sign c) is = inl (ap (λ x. cond x (Some ws) None) is)
       by BadByte is = inr refl
-
-  mark_step : (ws : List Want) (b : ℕ) (tok : Token) → is_the_sign b tok ≡ true → step tok (Mark b ∷ ws) ≡ Some ws
-  mark_step ws b (Word w) is = absurd cc
-  mark_step ws b (Number n) is = absurd cc
-  mark_step ws b (Sign c) is = ap (λ x. cond x (Some ws) None) is
-  mark_step ws b BadByte is = absurd cc
 
   mark_or : {E A : Type 0} {fault : E → LineFault} {ws vs : List Want} (b : ℕ) (F : State → Result (A × State) E) (refuse : State → E) → ((s : State) → fault (refuse s) ≡ fault_of (unexpected s)) → Takes fault ws vs F
       → Takes fault (Mark b ∷ ws) vs (λ s. option_map_or F (after_sign b s) (Err (refuse s)))

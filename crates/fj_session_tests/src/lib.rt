@@ -6,6 +6,8 @@ mod auditing;
 #[cfg(test)]
 mod generated;
 #[cfg(test)]
+mod hostile;
+#[cfg(test)]
 mod lets;
 #[cfg(test)]
 mod program;

@@ -7,7 +7,7 @@ use std::process::Abort;
 use std::test::Fail;
 
 /// The words, the session, the status and the output.
-pub(crate) type Row<'a> = (&'static [&'static str], &'a [u8], u8, &'static [u8]);
+pub(crate) type Row<'a> = (&'static [&'static str], &'a [u8], u8, &'a [u8]);
 
 pub(crate) const GO: &[&str] = &["run"];
 
