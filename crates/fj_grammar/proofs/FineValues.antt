@@ -18,8 +18,24 @@ use Rattle.fj_theory.proofs.Monomial.{term_zero}
 use Rattle.fj_theory.proofs.Polynomial.{IsPolynomial-empty, IsPolynomial-term, coefficient-empty, coefficient-term}
 use Rattle.fj_theory.proofs.PolynomialRing.{IsPolynomial-negation, coefficient-negation, neg_zero_rank, sum_empty, sum_negation, sum_comm}
 use Rattle.fj_text.specs.Grammar.{IsWithinLimits}
-use Rattle.fj_text.proofs.Sums.{len_made}
 use Rattle.fj_script.proofs.AcceptedPolynomials.{variable_eight, variable_low}
+
+-- No more terms than exponents that are named.
+len_made : (c : List ℕ → ℕ) (es : List (List ℕ)) → len (with_coefficients c es) ≤ length es
+unfolding with_coefficients
+len_made c [] = let none = len-empty (slice_cmp nat_cmp) ℕ in omega arith
+len_made c (a ∷ es) = by (eqb (c a) 0) (len_made c es)
+  where
+    rest : Polynomial
+    rest = with_coefficients c es
+
+    one_more : (b : Bool) → cond b (len rest) (len rest + 1) ≤ len rest + 1
+    one_more true = omega arith
+    one_more false = omega arith
+
+    by : (b : Bool) → len rest ≤ length es → len (cond b rest (insert rest a (c a))) ≤ suc (length es)
+    by true h = omega arith
+    by false h = let one = len-insert nat_list_cmp_total rest a (c a) in let more = one_more (contains_key rest a) in omega (arith, one, more)
 
 length_support : (f : Polynomial) → length (support f) ≡ len f
 length_support f = length-map (entries f) (λ e. e.0) ∙ sym (len-entries f)

@@ -12,17 +12,37 @@ use std::process::Abort;
 use std::test::Fail;
 
 // A polynomial over GF(2) in x and y: the exponents of each term, and 1.
-type Terms<'a> = &'a [([u64; 2], u64)];
+type Terms = &'static [([u64; 2], u64)];
 
-const ZERO: Terms<'static> = &[];
+// Two lists, the rows of the second over the first, and those of the first over the second.
+type Same = (
+    &'static [Terms],
+    &'static [Terms],
+    &'static [&'static [Terms]],
+    &'static [&'static [Terms]],
+);
 
-const ONE: Terms<'static> = &[([0, 0], 1)];
+const ZERO: Terms = &[];
 
-const X: Terms<'static> = &[([1, 0], 1)];
+const ONE: Terms = &[([0, 0], 1)];
 
-const Y: Terms<'static> = &[([0, 1], 1)];
+const X: Terms = &[([1, 0], 1)];
 
-const SUM: Terms<'static> = &[([1, 0], 1), ([0, 1], 1)];
+const Y: Terms = &[([0, 1], 1)];
+
+const SUM: Terms = &[([1, 0], 1), ([0, 1], 1)];
+
+// x = (x + y) + y, and zero is the sum of no multiples.
+static SAMES: [Same; 3] = [
+    (
+        &[SUM, Y],
+        &[X, Y],
+        &[&[ONE, ONE], &[ZERO, ONE]],
+        &[&[ONE, ONE], &[ZERO, ONE]],
+    ),
+    (&[ZERO, X], &[X], &[&[ZERO, ONE]], &[&[ZERO], &[ONE]]),
+    (&[ZERO], &[], &[], &[&[]]),
+];
 
 fn ideal(rt: &impl Abort, alloc: Global, list: &[Terms]) -> Result<Ideal<Fp<2>>, Fail> {
     Ok(Ideal::of(alloc, &polys(rt, alloc, list)?, 100)?)
@@ -37,14 +57,9 @@ fn has_rows(rt: &impl Abort, table: &PlainTable, wanted: &[&[Terms]]) {
 }
 
 // The certificate that two equal ideals are one holds, and has their lists and these rows.
-fn has_same(
-    rt: &impl Abort,
-    alloc: Global,
-    lists: (&[Terms], &[Terms]),
-    rows: (&[&[Terms]], &[&[Terms]]),
-) -> Result<(), Fail> {
-    let one = ideal(rt, alloc, lists.0)?;
-    let other = ideal(rt, alloc, lists.1)?;
+fn has_same(rt: &impl Abort, alloc: Global, row: Same) -> Result<(), Fail> {
+    let one = ideal(rt, alloc, row.0)?;
+    let other = ideal(rt, alloc, row.1)?;
     assert!(rt; one.same(&other));
     let cert = one.same_cert(alloc, &other)?;
     assert!(rt; holds(alloc, &cert)?);
@@ -57,33 +72,22 @@ fn has_same(
             to_first,
         } => {
             assert_eq!(rt; *p, 2);
-            have_plain_terms(rt, first, lists.0);
-            have_plain_terms(rt, second, lists.1);
-            has_rows(rt, to_second, rows.0);
-            has_rows(rt, to_first, rows.1);
+            have_plain_terms(rt, first, row.0);
+            have_plain_terms(rt, second, row.1);
+            has_rows(rt, to_second, row.2);
+            has_rows(rt, to_first, row.3);
         }
         _ => assert!(rt; false, "a certificate of one ideal"),
     }
     Ok(())
 }
 
-// x = (x + y) + y, and zero is the sum of no multiples.
 #[test]
 fn same(rt: HostRuntime) -> Result<(), Fail> {
-    let alloc = rt.alloc();
-    has_same(
-        &rt,
-        alloc,
-        (&[SUM, Y], &[X, Y]),
-        (&[&[ONE, ONE], &[ZERO, ONE]], &[&[ONE, ONE], &[ZERO, ONE]]),
-    )?;
-    has_same(
-        &rt,
-        alloc,
-        (&[ZERO, X], &[X]),
-        (&[&[ZERO, ONE]], &[&[ZERO], &[ONE]]),
-    )?;
-    has_same(&rt, alloc, (&[ZERO], &[]), (&[], &[&[]]))
+    for row in SAMES {
+        has_same(&rt, rt.alloc(), row)?;
+    }
+    Ok(())
 }
 
 // Over GF(2), x^3 + y^2 = y^2 + x*x^2.

@@ -1,5 +1,5 @@
 //! The program's one call: a session is read or generated, answered and written.
-ghost use Rattle.std.specs.Prelude.{◌≡◌, ◌≢◌, ◌≤◌, ◌<◌, ◌⊎◌, ◌++◌, ◌∷◌, [], ℕ, List, Err, IfOk, IsErrOf, filter, map};
+ghost use Rattle.std.specs.Prelude.{◌≡◌, ◌≢◌, ◌≤◌, ◌<◌, ◌⊎◌, ◌++◌, ◌∷◌, [], ℕ, List, Err, IfOk, IsErrOf, filter, length, map};
 ghost use Rattle.std.specs.Io.KnownBytes.{Appends};
 ghost use Rattle.std.specs.List.{AllZip};
 ghost use Rattle.fj_audit.specs.Handing.{AreShownAll, IsAsGood, remains};
@@ -31,6 +31,16 @@ use std::alloc::{AllocError, Global};
 
 /// The words, as a line.
 const USAGE_LINE: &[u8] = b"usage: fjcalc run | fjcalc run audit | fjcalc gen N\n";
+
+/// Drops the auditors that are out, of so many. It has a condition, since the check doubts a function without one that hands
+/// boxed objects to another crate: it can't tell whether they are the caller's.
+fn drop_out(many: usize, auditors: &mut Vec<Box<dyn Auditor>>)
+    requires { many ≡ length auditors.old.items }
+    ensures kept { auditors.new.items ≡ filter (λ a. remains (account a)) auditors.old.items }
+{
+    let _ = many;
+    sweep(auditors);
+}
 
 /// The script of the generated session of n.
 ///
@@ -194,7 +204,8 @@ pub fn run<S: Source, K: Sink>(
         → map account auditors.new.items ≡ filter remains (map account auditors.old.items) }
     ensures good { AllZip IsAsGood (filter remains (map account auditors.old.items)) (map account auditors.new.items) }
 {
-    sweep(auditors);
+    let many = auditors.len();
+    drop_out(many, auditors);
     let form = match read_words(words) {
         Some(form) => form,
         None => return write_text(sink, USAGE, USAGE_LINE),

@@ -3,7 +3,6 @@ use crate::running::{AUDIT, GO, Row, all_end, ends, ends_with};
 use crate::shapes::{Shape, Shapes};
 use fj_audit::{Auditor, Flaky, Keep, Tally, sweep};
 use fj_plain::OrderName;
-use std::alloc::{AllocError, Global};
 use std::test::Fail;
 
 /// Nothing fails.
@@ -70,20 +69,15 @@ fn lines_fail_as_the_sink_does(rt: HostRuntime) -> Result<(), Fail> {
     ends(&rt, alloc, (AUDIT, IDEALS, 5, cut), (10, 0, cut.len(), 0))
 }
 
-/// One that fails a note, and one that counts behind it.
-fn flaky_and_tally(alloc: Global, note: u64) -> Result<Vec<Box<dyn Auditor>>, AllocError> {
-    let mut auditors: Vec<Box<dyn Auditor>> = Vec::new(alloc);
-    auditors.push(Box::new(alloc, Flaky::new(alloc, &[note])?)?)?;
-    auditors.push(Box::new(alloc, Tally::new())?)?;
-    Ok(auditors)
-}
-
 // One that failed stays in the list until the next run, and is shown nothing.
 #[test]
 fn a_failed_note_changes_no_answer(rt: HostRuntime) -> Result<(), Fail> {
     let alloc = rt.alloc();
     for noted in 0..5u64 {
-        let mut auditors = flaky_and_tally(alloc, noted.saturating_add(1))?;
+        let note = noted.saturating_add(1);
+        let mut auditors: Vec<Box<dyn Auditor>> = Vec::new(alloc);
+        auditors.push(Box::new(alloc, Flaky::new(alloc, &[note])?)?)?;
+        auditors.push(Box::new(alloc, Tally::new())?)?;
         let row: Row<'_> = (GO, WHOLE, 0, WHOLE_ANSWERS);
         ends_with(&rt, alloc, row, AMPLE, &mut auditors)?;
         assert_eq!(rt; auditors.len(), 2);
@@ -100,7 +94,9 @@ fn a_failed_note_changes_no_answer(rt: HostRuntime) -> Result<(), Fail> {
 #[test]
 fn one_that_is_out_has_no_line(rt: HostRuntime) -> Result<(), Fail> {
     let alloc = rt.alloc();
-    let mut auditors = flaky_and_tally(alloc, 2)?;
+    let mut auditors: Vec<Box<dyn Auditor>> = Vec::new(alloc);
+    auditors.push(Box::new(alloc, Flaky::new(alloc, &[2])?)?)?;
+    auditors.push(Box::new(alloc, Tally::new())?)?;
     auditors.push(Box::new(alloc, Keep::new(alloc))?)?;
     let lines: &[u8] =
         b"1: (y, x)\n2: (1)\nauditor tally: seen 2, bad 0\nauditor keep: seen 2, bad 0\n";

@@ -1,5 +1,6 @@
 //! Cut sessions, sources and sinks that fail at each of their calls, and sessions at the edge of what is read.
-use crate::running::{GO, Row, all_end, ends, usual_auditors};
+use crate::running::{GO, Row, all_end, ends};
+use fj_audit::{Auditor, Recheck, Tally};
 use fj_io::{MemorySink, MemorySource};
 use fj_session::run;
 use std::alloc::{AllocError, Global};
@@ -69,7 +70,9 @@ fn ends_as_one_of(
     session: &[u8],
     outputs: &[&[u8]],
 ) -> Result<(), Fail> {
-    let mut auditors = usual_auditors(alloc)?;
+    let mut auditors: Vec<Box<dyn Auditor>> = Vec::new(alloc);
+    auditors.push(Box::new(alloc, Recheck::new())?)?;
+    auditors.push(Box::new(alloc, Tally::new())?)?;
     let mut source = MemorySource::new(alloc, session, 1000, &[])?;
     let mut sink = MemorySink::new(alloc, 1000, &[])?;
     let status = run(alloc, GO, &mut source, &mut sink, &mut auditors);

@@ -1,8 +1,10 @@
 //! Rows of tests, and how they are run.
+ghost use Rattle.std.specs.Prelude.{◌≤◌};
+
 use fj_audit::{Auditor, Recheck, Tally};
 use fj_io::{MemorySink, MemorySource};
 use fj_session::run;
-use std::alloc::{AllocError, Global};
+use std::alloc::Global;
 use std::process::Abort;
 use std::test::Fail;
 
@@ -13,14 +15,6 @@ pub(crate) const GO: &[&str] = &["run"];
 
 pub(crate) const AUDIT: &[&str] = &["run", "audit"];
 
-/// The auditors of the program.
-pub(crate) fn usual_auditors(alloc: Global) -> Result<Vec<Box<dyn Auditor>>, AllocError> {
-    let mut auditors: Vec<Box<dyn Auditor>> = Vec::new(alloc);
-    auditors.push(Box::new(alloc, Recheck::new())?)?;
-    auditors.push(Box::new(alloc, Tally::new())?)?;
-    Ok(auditors)
-}
-
 /// Runs `run` with the auditors of the program on a session whose source and sink fail at these calls: the bytes of a read,
 /// the read that fails, the room of the sink, the write that fails.
 pub(crate) fn ends(
@@ -29,21 +23,27 @@ pub(crate) fn ends(
     row: Row<'_>,
     outside: (usize, u64, usize, u64),
 ) -> Result<(), Fail> {
-    let mut auditors = usual_auditors(alloc)?;
+    let mut auditors: Vec<Box<dyn Auditor>> = Vec::new(alloc);
+    auditors.push(Box::new(alloc, Recheck::new())?)?;
+    auditors.push(Box::new(alloc, Tally::new())?)?;
+    assert!(rt; outside.0 >= 1);
     ends_with(rt, alloc, row, outside, &mut auditors)
 }
 
 /// Runs `run` with these auditors.
+///
+/// Condition: a read has at least one byte.
 pub(crate) fn ends_with(
     rt: &impl Abort,
     alloc: Global,
     row: Row<'_>,
     outside: (usize, u64, usize, u64),
     auditors: &mut Vec<Box<dyn Auditor>>,
-) -> Result<(), Fail> {
+) -> Result<(), Fail>
+    requires { 1 ≤ outside.0 }
+{
     let (words, session, status, output) = row;
     let (step, read, room, write) = outside;
-    assert!(rt; step >= 1);
     let mut source = MemorySource::new(alloc, session, step, &[read])?;
     let mut sink = MemorySink::new(alloc, room, &[write])?;
     assert_eq!(rt; run(alloc, words, &mut source, &mut sink, auditors), status);

@@ -13,7 +13,7 @@ pub mod PrintedLaw
 pub mod FirstVariables
 pub mod Readers
 pub mod Values
-pub mod Sums
+mod Sums
 mod Powers
 pub mod Repeats
 pub mod Parentheses

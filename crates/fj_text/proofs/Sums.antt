@@ -96,7 +96,7 @@ module _ (k : ℕ) (us : List (List ℕ)) where
       All-append (Has (sums (suc k) us)) (map (plus b) cs) (flat_map (λ b. map (plus b) cs) bs) (one_row b (All-head (Has us) b bs from) cs all) (rows bs cs (All-tail (Has us) b bs from) all)
 
 -- No more terms than exponent lists that are named.
-pub len_made : (c : List ℕ → ℕ) (es : List (List ℕ)) → len (with_coefficients c es) ≤ length es
+len_made : (c : List ℕ → ℕ) (es : List (List ℕ)) → len (with_coefficients c es) ≤ length es
 unfolding with_coefficients
 len_made c [] = let none = len-empty (slice_cmp nat_cmp) ℕ in omega arith
 len_made c (a ∷ es) = by (eqb (c a) 0) (len_made c es)

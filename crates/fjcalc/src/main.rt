@@ -6,7 +6,7 @@
 use fj_audit::{Auditor, Recheck, Tally};
 use fj_io::{StdSink, StdSource};
 use fj_session::run;
-use std::alloc::{AllocError, Global};
+use std::alloc::AllocError;
 use std::env::{self, Args};
 use std::io::ErrorKind;
 use std::process::ExitCode;
@@ -17,15 +17,8 @@ const NO_MEMORY: u8 = 6;
 /// The system didn't give the words.
 const NO_WORDS: u8 = 8;
 
-/// The auditors of the program, in the order of their lines.
-fn auditors(alloc: Global) -> Result<Vec<Box<dyn Auditor>>, AllocError> {
-    let mut auditors: Vec<Box<dyn Auditor>> = Vec::new(alloc);
-    auditors.push(Box::new(alloc, Recheck::new())?)?;
-    auditors.push(Box::new(alloc, Tally::new())?)?;
-    Ok(auditors)
-}
-
-/// Runs over the words behind the program's name, and answers the status.
+/// Runs over the words behind the program's name with the auditors of the program, in the order of their lines, and answers
+/// the status.
 fn run_with(rt: &HostRuntime, args: Args) -> Result<u8, AllocError> {
     let alloc = rt.alloc();
     let mut texts = Vec::new(alloc);
@@ -36,7 +29,9 @@ fn run_with(rt: &HostRuntime, args: Args) -> Result<u8, AllocError> {
     for text in &texts {
         words.push(text.as_str())?;
     }
-    let mut auditors = auditors(alloc)?;
+    let mut auditors: Vec<Box<dyn Auditor>> = Vec::new(alloc);
+    auditors.push(Box::new(alloc, Recheck::new())?)?;
+    auditors.push(Box::new(alloc, Tally::new())?)?;
     let mut source = StdSource::new(rt.stdin());
     let mut sink = StdSink::new(rt.stdout());
     Ok(run(alloc, &words, &mut source, &mut sink, &mut auditors))

@@ -11,7 +11,7 @@ use Rattle.fj_shell.proofs.Pieces.{appends_nothing}
 pub returns-in-None-clause-whole : goal.returns-in-None-clause-whole
 returns-in-None-clause-whole g c = λ small.
     let written = c.write_text.ensures.written small in
-    (usage_line ∷ [], [], inl (c.read_words.ensures.none c.in-None.is, written.0, refl, refl), written.1, shown_nothing _ _ (accounts_swept (λ b. (goal.Auditor-dyn g (b.vtable, b.value)).account b.value) c.args.auditors.now.items c.sweep.new.auditors.items c.sweep.ensures.kept))
+    (usage_line ∷ [], [], inl (c.read_words.ensures.none c.in-None.is, written.0, refl, refl), written.1, shown_nothing _ _ (accounts_swept (λ b. (goal.Auditor-dyn g (b.vtable, b.value)).account b.value) c.args.auditors.now.items c.drop_out.new.auditors.items c.drop_out.ensures.kept))
 
 pub returns-in-None-clause-write_failed : goal.returns-in-None-clause-write_failed
 returns-in-None-clause-write_failed g c = λ five.
@@ -26,10 +26,10 @@ returns-in-None-clause-write_failed g c = λ five.
     )
 
 pub returns-in-None-clause-unshown : goal.returns-in-None-clause-unshown
-returns-in-None-clause-unshown g c = λ which. accounts_swept (λ b. (goal.Auditor-dyn g (b.vtable, b.value)).account b.value) c.args.auditors.now.items c.sweep.new.auditors.items c.sweep.ensures.kept
+returns-in-None-clause-unshown g c = λ which. accounts_swept (λ b. (goal.Auditor-dyn g (b.vtable, b.value)).account b.value) c.args.auditors.now.items c.drop_out.new.auditors.items c.drop_out.ensures.kept
 
 pub returns-in-None-clause-good : goal.returns-in-None-clause-good
-returns-in-None-clause-good g c = as_good_same _ _ (accounts_swept (λ b. (goal.Auditor-dyn g (b.vtable, b.value)).account b.value) c.args.auditors.now.items c.sweep.new.auditors.items c.sweep.ensures.kept)
+returns-in-None-clause-good g c = as_good_same _ _ (accounts_swept (λ b. (goal.Auditor-dyn g (b.vtable, b.value)).account b.value) c.args.auditors.now.items c.drop_out.new.auditors.items c.drop_out.ensures.kept)
 
 pub returns-in-Ok-clause-whole : goal.returns-in-Ok-clause-whole
 returns-in-Ok-clause-whole g c = λ small.
@@ -39,7 +39,7 @@ returns-in-Ok-clause-whole g c = λ small.
       certificates_of whole.0,
       inr (c.in-Some.form, c.in-Some.ensures.found, (read.0, read.1, inr (c.in-Ok.script, read.2, (whole.0, whole.1, whole.2, refl, refl)))),
       whole.3,
-      shown_from_same (certificates_of whole.0) _ _ _ (accounts_swept (λ b. (goal.Auditor-dyn g (b.vtable, b.value)).account b.value) c.args.auditors.now.items c.sweep.new.auditors.items c.sweep.ensures.kept) whole.4,
+      shown_from_same (certificates_of whole.0) _ _ _ (accounts_swept (λ b. (goal.Auditor-dyn g (b.vtable, b.value)).account b.value) c.args.auditors.now.items c.drop_out.new.auditors.items c.drop_out.ensures.kept) whole.4,
     )
 
 pub returns-in-Ok-clause-write_failed : goal.returns-in-Ok-clause-write_failed
@@ -56,7 +56,7 @@ returns-in-Ok-clause-write_failed g c = λ five.
     )
 
 pub returns-in-Ok-clause-good : goal.returns-in-Ok-clause-good
-returns-in-Ok-clause-good g c = good_from_same _ _ _ (accounts_swept (λ b. (goal.Auditor-dyn g (b.vtable, b.value)).account b.value) c.args.auditors.now.items c.sweep.new.auditors.items c.sweep.ensures.kept) c.answer_script.ensures.good
+returns-in-Ok-clause-good g c = good_from_same _ _ _ (accounts_swept (λ b. (goal.Auditor-dyn g (b.vtable, b.value)).account b.value) c.args.auditors.now.items c.drop_out.new.auditors.items c.drop_out.ensures.kept) c.answer_script.ensures.good
 
 pub returns-in-Err-At-clause-whole : goal.returns-in-Err-At-clause-whole
 returns-in-Err-At-clause-whole g c = λ small.
@@ -67,7 +67,7 @@ returns-in-Err-At-clause-whole g c = λ small.
       [],
       inr (c.in-Some.form, c.in-Some.ensures.found, (read.0, read.1, inl (fault, read.2, written.0, refl, refl))),
       subst (Appends (g.K.Sink.taken c.args.sink.now) (g.K.Sink.taken c.write_fault.new.sink)) (sym (append-nil (fault_line fault))) (rw c.in-Err-At.field-0-is at written.1),
-      shown_nothing _ _ (accounts_swept (λ b. (goal.Auditor-dyn g (b.vtable, b.value)).account b.value) c.args.auditors.now.items c.sweep.new.auditors.items c.sweep.ensures.kept),
+      shown_nothing _ _ (accounts_swept (λ b. (goal.Auditor-dyn g (b.vtable, b.value)).account b.value) c.args.auditors.now.items c.drop_out.new.auditors.items c.drop_out.ensures.kept),
     )
 
 pub returns-in-Err-At-clause-write_failed : goal.returns-in-Err-At-clause-write_failed
@@ -85,16 +85,16 @@ returns-in-Err-At-clause-write_failed g c = λ five.
     )
 
 pub returns-in-Err-At-clause-unshown : goal.returns-in-Err-At-clause-unshown
-returns-in-Err-At-clause-unshown g c = λ which. accounts_swept (λ b. (goal.Auditor-dyn g (b.vtable, b.value)).account b.value) c.args.auditors.now.items c.sweep.new.auditors.items c.sweep.ensures.kept
+returns-in-Err-At-clause-unshown g c = λ which. accounts_swept (λ b. (goal.Auditor-dyn g (b.vtable, b.value)).account b.value) c.args.auditors.now.items c.drop_out.new.auditors.items c.drop_out.ensures.kept
 
 pub returns-in-Err-At-clause-good : goal.returns-in-Err-At-clause-good
-returns-in-Err-At-clause-good g c = as_good_same _ _ (accounts_swept (λ b. (goal.Auditor-dyn g (b.vtable, b.value)).account b.value) c.args.auditors.now.items c.sweep.new.auditors.items c.sweep.ensures.kept)
+returns-in-Err-At-clause-good g c = as_good_same _ _ (accounts_swept (λ b. (goal.Auditor-dyn g (b.vtable, b.value)).account b.value) c.args.auditors.now.items c.drop_out.new.auditors.items c.drop_out.ensures.kept)
 
 pub returns-in-Err-Failed-clause-unshown : goal.returns-in-Err-Failed-clause-unshown
-returns-in-Err-Failed-clause-unshown g c = λ which. accounts_swept (λ b. (goal.Auditor-dyn g (b.vtable, b.value)).account b.value) c.args.auditors.now.items c.sweep.new.auditors.items c.sweep.ensures.kept
+returns-in-Err-Failed-clause-unshown g c = λ which. accounts_swept (λ b. (goal.Auditor-dyn g (b.vtable, b.value)).account b.value) c.args.auditors.now.items c.drop_out.new.auditors.items c.drop_out.ensures.kept
 
 pub returns-in-Err-Failed-clause-good : goal.returns-in-Err-Failed-clause-good
-returns-in-Err-Failed-clause-good g c = as_good_same _ _ (accounts_swept (λ b. (goal.Auditor-dyn g (b.vtable, b.value)).account b.value) c.args.auditors.now.items c.sweep.new.auditors.items c.sweep.ensures.kept)
+returns-in-Err-Failed-clause-good g c = as_good_same _ _ (accounts_swept (λ b. (goal.Auditor-dyn g (b.vtable, b.value)).account b.value) c.args.auditors.now.items c.drop_out.new.auditors.items c.drop_out.ensures.kept)
 
 pub returns-in-Err-Memory-clause-good : goal.returns-in-Err-Memory-clause-good
-returns-in-Err-Memory-clause-good g c = as_good_same _ _ (accounts_swept (λ b. (goal.Auditor-dyn g (b.vtable, b.value)).account b.value) c.args.auditors.now.items c.sweep.new.auditors.items c.sweep.ensures.kept)
+returns-in-Err-Memory-clause-good g c = as_good_same _ _ (accounts_swept (λ b. (goal.Auditor-dyn g (b.vtable, b.value)).account b.value) c.args.auditors.now.items c.drop_out.new.auditors.items c.drop_out.ensures.kept)
