@@ -91,6 +91,7 @@ def without_low_lines(session: Session) -> Session:
         polynomials=named(session.polynomials),
         ideals=named(session.ideals),
         points=named(session.points),
+        lets={name: [word.replace("_", "'") for word in words] for name, words in named(session.lets).items()},
         questions=asked,
     )
 
@@ -143,7 +144,7 @@ class Macaulay2(Peer):
                 return f"isFPure(i{j}, AtOrigin => true)"
             case ["compatible", e, u, j]:
                 return f"isSubset(frobeniusRoot({e}, ideal(p{u}) * i{j}), i{j})"
-            case ["threshold", f, j, e] if j in session.ideals:
+            case ["threshold", f, j, e] if j in session.ideals or j in session.lets:
                 return f"threshold(p{f}, i{j}, {e})"
             case ["threshold", f, at, _] if all(int(c) == 0 for c in session.points[at]):
                 return f"fpt p{f}"
@@ -153,8 +154,8 @@ class Macaulay2(Peer):
     def question(self, question: Question, session: Session) -> str:
         if question.words[0] == "jumps":
             _, f, e = question.words
-            return f'printJumps("{question.number}", p{f}, {e});'
-        return f'print("{question.number} @ " | toString({self.value(question, session)}));'
+            return f'printJumps("{question.number}", p{f}, {e}); flush stdio;'
+        return f'print("{question.number} @ " | toString({self.value(question, session)})); flush stdio;'
 
     def script(self, session: Session) -> str:
         session = without_low_lines(session)
@@ -166,8 +167,9 @@ class Macaulay2(Peer):
         lines.append(f"Sgrevlex = ZZ/{session.prime}[{names}, MonomialOrder => GRevLex];")
         lines += [f"p{name} = {value} + 0_Sgrevlex;" for name, value in session.polynomials.items()]
         lines += [f"i{name} = ideal({', '.join(f'({g}) + 0_Sgrevlex' for g in gens)});" for name, gens in session.ideals.items()]
+        lines += [f"i{name} = {self.ideal_of(words, session)};" for name, words in session.lets.items()]
         lines += [self.question(question, session) for question in session.questions]
-        lines.append('print("seconds @ " | toString(cpuTime() - began));')
+        lines.append('print("seconds @ " | toString(cpuTime() - began)); exit 0')
         return "\n".join(lines) + "\n"
 
 
@@ -223,6 +225,8 @@ class Singular(Peer):
                 return [made, f"setring {at};", basis, "setring Sgrevlex;"]
 
     def script(self, session: Session) -> str:
+        if session.lets:
+            raise Unknown("let")
         names = ",".join(session.variables)
         lines = []
         for order, word in self.orders.items():

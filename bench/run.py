@@ -45,7 +45,7 @@ class Settings:
 
 @dataclasses.dataclass
 class Timed:
-    """What a command printed, the least seconds of a processor, whether it was cut at the limit, and its memory in MB."""
+    """What a command printed, before it was cut too, its least seconds of a processor, whether it was cut, and its memory in MB."""
 
     lines: list[str]
     seconds: float
@@ -70,7 +70,7 @@ def run_once(command: list, text: str) -> Timed:
         told.seek(0)
         lines = told.read().splitlines()
     was_cut = child.returncode in (-signal.SIGKILL, -signal.SIGXCPU)
-    return Timed([] if was_cut else lines, used.ru_utime + used.ru_stime, was_cut, used.ru_maxrss / 1024)
+    return Timed(lines, used.ru_utime + used.ru_stime, was_cut, used.ru_maxrss / 1024)
 
 
 def run(command: list, text: str) -> Timed:

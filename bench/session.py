@@ -18,6 +18,7 @@ class Session:
     polynomials: dict[str, str]
     ideals: dict[str, list[str]]
     points: dict[str, list[str]]
+    lets: dict[str, list[str]]
     questions: list[Question]
 
 
@@ -34,7 +35,7 @@ def split_at_commas(text: str) -> list[str]:
 
 def read(text: str) -> Session:
     """The session, which has no fault."""
-    session = Session(0, [], {}, {}, {}, [])
+    session = Session(0, [], {}, {}, {}, {}, [])
     order = "grevlex"
     for line in text.splitlines():
         line = line.partition("#")[0].strip()
@@ -53,6 +54,9 @@ def read(text: str) -> Session:
         elif word == "point":
             name, _, value = rest.partition("=")
             session.points[name.strip()] = split_at_commas(value.strip()[1:-1])
+        elif word == "let":
+            name, _, question = rest.partition("=")
+            session.lets[name.strip()] = question.split()
         elif word == "ask":
             session.questions.append(Question(len(session.questions) + 1, order, rest.split()))
     return session
