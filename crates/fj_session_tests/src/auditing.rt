@@ -18,6 +18,9 @@ const WHOLE: &[u8] =
 const WHOLE_ANSWERS: &[u8] =
     b"1: threshold 5/6\n2: (y, x)\n3: jump 5/6 = (y, x)\n3: jump 1 = (y^3+6*x^2)\n3: complete\n4: threshold 1\n5: jump 1 = (x^3+x^2+6*y^2)\n5: complete\n6: yes\n7: yes\n8: threshold 1\n9: (1)\n10: nu 5\n";
 
+const WHOLE_AUDITED: &[u8] =
+    b"1: threshold 5/6\n2: (y, x)\n3: jump 5/6 = (y, x)\n3: jump 1 = (y^3+6*x^2)\n3: complete\n4: threshold 1\n5: jump 1 = (x^3+x^2+6*y^2)\n5: complete\n6: yes\n7: yes\n8: threshold 1\n9: (1)\n10: nu 5\nauditor recheck: seen 5, bad 0\nauditor tally: seen 5, bad 0\n";
+
 /// Lists and certificates of each kind. The lists for `same` are made of each other; the last question stops.
 const KINDS: &[u8] =
     b"ring 2 x, y\nideal J = (x+y, y)\nideal K = (x, y)\nideal L = (x^2+y, x*y+1)\nask root 1 J\nask same J K\nask same J L\norder lex\nask basis K\nask colon J L\nbudget 1\nask basis L\n";
@@ -25,18 +28,12 @@ const KINDS: &[u8] =
 const KINDS_ANSWERS: &[u8] = b"1: (1)\n2: yes\n3: no\n4: (y, x)\n5: (y, x)\n6: stopped pairs\n";
 
 /// The lines of the auditors of the program.
-static AUDITED: [Row<'static>; 5] = [
+static AUDITED: [Row<'static>; 4] = [
     (
         AUDIT,
         IDEALS,
         0,
         b"1: (y, x)\n2: (1)\nauditor recheck: seen 2, bad 0\nauditor tally: seen 2, bad 0\n",
-    ),
-    (
-        AUDIT,
-        WHOLE,
-        0,
-        b"1: threshold 5/6\n2: (y, x)\n3: jump 5/6 = (y, x)\n3: jump 1 = (y^3+6*x^2)\n3: complete\n4: threshold 1\n5: jump 1 = (x^3+x^2+6*y^2)\n5: complete\n6: yes\n7: yes\n8: threshold 1\n9: (1)\n10: nu 5\nauditor recheck: seen 5, bad 0\nauditor tally: seen 5, bad 0\n",
     ),
     (
         AUDIT,
@@ -57,6 +54,11 @@ static AUDITED: [Row<'static>; 5] = [
 #[test]
 fn auditors_have_lines(rt: HostRuntime) -> Result<(), Fail> {
     all_end(&rt, rt.alloc(), &AUDITED)
+}
+
+#[test]
+fn auditors_have_lines_behind_many_answers(rt: HostRuntime) -> Result<(), Fail> {
+    ends(&rt, rt.alloc(), (AUDIT, WHOLE, 0, WHOLE_AUDITED), AMPLE)
 }
 
 // The third write is that of the first auditor's line.
