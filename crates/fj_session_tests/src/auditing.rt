@@ -1,5 +1,5 @@
 //! What auditors are shown of whole sessions, and their lines.
-use crate::running::{AUDIT, GO, Row, all_end, ends, ends_with};
+use crate::running::{AUDIT, GO, Row, ends, ends_with};
 use crate::shapes::{Shape, Shapes};
 use fj_audit::{Auditor, Flaky, Keep, Tally, sweep};
 use fj_plain::OrderName;
@@ -27,33 +27,28 @@ const KINDS: &[u8] =
 
 const KINDS_ANSWERS: &[u8] = b"1: (1)\n2: yes\n3: no\n4: (y, x)\n5: (y, x)\n6: stopped pairs\n";
 
-/// The lines of the auditors of the program.
-static AUDITED: [Row<'static>; 4] = [
-    (
-        AUDIT,
-        IDEALS,
-        0,
-        b"1: (y, x)\n2: (1)\nauditor recheck: seen 2, bad 0\nauditor tally: seen 2, bad 0\n",
-    ),
-    (
-        AUDIT,
-        KINDS,
-        3,
-        b"1: (1)\n2: yes\n3: no\n4: (y, x)\n5: (y, x)\n6: stopped pairs\nauditor recheck: seen 5, bad 0\nauditor tally: seen 5, bad 0\n",
-    ),
-    (
-        AUDIT,
-        b"ring 2 x",
-        0,
-        b"auditor recheck: seen 0, bad 0\nauditor tally: seen 0, bad 0\n",
-    ),
-    // Behind the line of a fault there is none of an auditor.
-    (AUDIT, b"ring 4 x\n", 2, b"fault Prime at 1:6\n"),
-];
+/// The outputs with the lines of the auditors of the program.
+const IDEALS_AUDITED: &[u8] =
+    b"1: (y, x)\n2: (1)\nauditor recheck: seen 2, bad 0\nauditor tally: seen 2, bad 0\n";
+
+const KINDS_AUDITED: &[u8] =
+    b"1: (1)\n2: yes\n3: no\n4: (y, x)\n5: (y, x)\n6: stopped pairs\nauditor recheck: seen 5, bad 0\nauditor tally: seen 5, bad 0\n";
+
+const NOTHING_AUDITED: &[u8] = b"auditor recheck: seen 0, bad 0\nauditor tally: seen 0, bad 0\n";
 
 #[test]
 fn auditors_have_lines(rt: HostRuntime) -> Result<(), Fail> {
-    all_end(&rt, rt.alloc(), &AUDITED)
+    let alloc = rt.alloc();
+    ends(&rt, alloc, (AUDIT, IDEALS, 0, IDEALS_AUDITED), AMPLE)?;
+    ends(&rt, alloc, (AUDIT, KINDS, 3, KINDS_AUDITED), AMPLE)?;
+    ends(&rt, alloc, (AUDIT, b"ring 2 x", 0, NOTHING_AUDITED), AMPLE)
+}
+
+// Behind the line of a fault there is none of an auditor.
+#[test]
+fn faults_have_no_lines_of_auditors(rt: HostRuntime) -> Result<(), Fail> {
+    let fault: &[u8] = b"fault Prime at 1:6\n";
+    ends(&rt, rt.alloc(), (AUDIT, b"ring 4 x\n", 2, fault), AMPLE)
 }
 
 #[test]
