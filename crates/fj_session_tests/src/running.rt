@@ -1,6 +1,4 @@
 //! Rows of tests, and how they are run.
-ghost use Rattle.std.specs.Prelude.{◌≤◌};
-
 use fj_audit::{Auditor, Recheck, Tally};
 use fj_io::{MemorySink, MemorySource};
 use fj_session::run;
@@ -13,8 +11,6 @@ pub(crate) type Row<'a> = (&'static [&'static str], &'a [u8], u8, &'a [u8]);
 
 pub(crate) const GO: &[&str] = &["run"];
 
-pub(crate) const AUDIT: &[&str] = &["run", "audit"];
-
 /// Runs `run` with the auditors of the program on a session whose source and sink fail at these calls: the bytes of a read,
 /// the read that fails, the room of the sink, the write that fails.
 pub(crate) fn ends(
@@ -26,27 +22,15 @@ pub(crate) fn ends(
     let mut auditors: Vec<Box<dyn Auditor>> = Vec::new(alloc);
     auditors.push(Box::new(alloc, Recheck::new())?)?;
     auditors.push(Box::new(alloc, Tally::new())?)?;
-    assert!(rt; outside.0 >= 1);
-    ends_with(rt, alloc, row, outside, &mut auditors)
-}
-
-/// Runs `run` with these auditors.
-///
-/// Condition: a read has at least one byte.
-pub(crate) fn ends_with(
-    rt: &impl Abort,
-    alloc: Global,
-    row: Row<'_>,
-    outside: (usize, u64, usize, u64),
-    auditors: &mut Vec<Box<dyn Auditor>>,
-) -> Result<(), Fail>
-    requires { 1 ≤ outside.0 }
-{
     let (words, session, status, output) = row;
     let (step, read, room, write) = outside;
+    assert!(rt; step >= 1);
     let mut source = MemorySource::new(alloc, session, step, &[read])?;
     let mut sink = MemorySink::new(alloc, room, &[write])?;
-    assert_eq!(rt; run(alloc, words, &mut source, &mut sink, auditors), status);
+    assert_eq!(rt;
+        run(alloc, words, &mut source, &mut sink, &mut auditors),
+        status
+    );
     assert_eq!(rt; sink.taken(), output);
     Ok(())
 }
