@@ -2,10 +2,6 @@
 #![tactic(auto)]
 
 #[cfg(test)]
-mod generated;
-#[cfg(test)]
-mod lets;
-#[cfg(test)]
 mod program;
 #[cfg(test)]
 mod running;
