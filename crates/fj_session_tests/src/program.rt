@@ -15,8 +15,6 @@ const OUTPUT_A: &[u8] =
 const CUSP: &[u8] =
     b"ring 5 x, y\npoly f = x^2+y^3\nask test f 4/5\nask left f 4/5\nask isjump f 4/5\nask isjump f 3/4\nask regular f 3/4\nask regular f 4/5\n";
 
-const CUSP_ANSWERS: &[u8] = b"1: (y, x)\n2: (1)\n3: yes\n4: no\n5: yes\n6: no\n";
-
 /// Parts.
 static PARTS: [Row<'static>; 21] = [
     (GO, SESSION_A, 0, OUTPUT_A),
