@@ -8,12 +8,14 @@
   marked `sh` that such a block follows, which is run at the top of the repository with the program for `bin/fjcalc`;
 - in docs/MANUAL.md each row of a table with a session in one cell, its lines parted by a return sign, and what the
   program writes in the next;
+- the rows of rows.json: words, a session, the status and what is written, of every kind of question and of fault;
 - the sessions of table/tests/stored.txt, whose answers the tests of bin/fjcalc-table stand on.
 
 The status has to be the one that the manual tells: 2 after a fault, 3 where an answer is a stop. The tests of
 bin/fjcalc-table are run too.
 """
 
+import json
 import pathlib
 import re
 import subprocess
@@ -63,6 +65,20 @@ def examples(program: str):
         yield "table/tests/stored.txt, " + " / ".join(session.splitlines()), answering, session, answers
 
 
+def rows_agree(program: str) -> tuple[int, int]:
+    """How many rows of rows.json the program answers as they say, and how many not."""
+    passed = failed = 0
+    for row in json.loads((HERE / "rows.json").read_text()):
+        asked = row["session"].encode("latin-1")
+        done = subprocess.run([program, *row["words"]], input=asked, capture_output=True, timeout=SECONDS)
+        if (done.stdout, done.returncode) == (row["output"].encode("latin-1"), row["status"]):
+            passed += 1
+            continue
+        failed += 1
+        print(f"row {row}: status {done.returncode}\n--- written\n{done.stdout!r}")
+    return passed, failed
+
+
 def run(command: list[str], asked: str) -> tuple[str, int | str]:
     """What the command writes, and its status."""
     try:
@@ -82,6 +98,8 @@ def main() -> None:
             continue
         failed += 1
         print(f"{where}: status {status}, wanted {status_of(answers)}\n--- written\n{written}--- wanted\n{answers}")
+    good, bad = rows_agree(program)
+    passed, failed = passed + good, failed + bad
     print(f"examples: {passed} passed, {failed} failed", flush=True)
     tests = subprocess.run([sys.executable, "-B", TOP / "table" / "tests" / "test_table.py"])
     sys.exit(1 if failed or not passed else tests.returncode)
