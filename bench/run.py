@@ -1,7 +1,7 @@
 #!/usr/bin/env python3
 """Times the built program on sessions, and beside it Macaulay2 and Singular on the same questions, where installed.
 
-`bench/run.py [--turns] [--page] [--once] [--limit S] [--program PATH] [WORKLOAD ..]`; the workloads are those of
+`bench/run.py [--turns] [--audit] [--page] [--once] [--limit S] [--program PATH] [WORKLOAD ..]`; the workloads are those of
 `bench/workloads.py`, all of them where none is named. The program is built by `bin/fjcalc` where none is named. A time is that of a processor, the least of up to five runs, less that of
 an empty session or script, so start-up is left out; below a thousandth of a second it says nothing, and for Singular
 below five. Macaulay2 starts in a second and answers in thousandths, so its script tells the time from after its packages
@@ -10,7 +10,8 @@ cofactors too, and in a column of its own for `std`, which doesn't. Where a peer
 for Frobenius roots) the ratio is left out, where its answers differ from the program's the row says so, and where it
 takes over a minute of a processor, or the limit, it is cut: the ratio is then below what is printed. With `--once` each
 is run once. With `--turns` the least budget with which no question is stopped is looked for, by bisection: the number of
-turns that the run takes. With `--page` the rows are those of docs/PERFORMANCE.md: no times, but the greatest memory of
+turns that the run takes. With `--audit` no peer is asked: beside the seconds stand those that the program takes longer
+where its answers are audited, and their ratio. With `--page` the rows are those of docs/PERFORMANCE.md: no times, but the greatest memory of
 the program and of Macaulay2 in MB, and how the time grew from the row before.
 """
 
@@ -84,12 +85,17 @@ def run(command: list, text: str) -> Timed:
     return best
 
 
-def answered(session: str) -> Timed:
-    return run([Settings.program, "run"], session)
+def answered(workload: str, *words: str) -> Timed:
+    """The program on a session, or on the session that it generates."""
+    if workload.startswith("gen "):
+        return run([Settings.program, *workload.split()], "")
+    return run([Settings.program, "run", *words], workload)
 
 
 def peer_answered(peer: Peer, text: str, start: float) -> Timed | None:
     """The same of a peer, without its start-up, or nothing where it has no call for a question."""
+    if text.startswith("gen "):
+        return None
     session = read(text)
     try:
         script = peer.script(session)
@@ -150,6 +156,14 @@ def page_row(name: str, size: int, text: str, before: float | None, starts: dict
     return own.seconds
 
 
+def audit_row(name: str, size: int, text: str, before: float | None, starts: dict[str, float], _: bool) -> float:
+    """The seconds that the program takes longer where its answers are audited, and their ratio to those without."""
+    own = answered(text).less(starts[""])
+    more = max(answered(text, "audit").seconds - starts[""] - own.seconds, 0.0)
+    print(f"{name:<12}{size:>6}{own.seconds:>10.4f}{more:>10.4f}{more / own.seconds:>8.2f}{note(own)}", flush=True)
+    return own.seconds
+
+
 def start_times(is_named: bool) -> dict[str, float]:
     """The seconds of an empty session of the program, under the empty name, and of each peer that is installed."""
     empty = "ring 2 x\n"
@@ -166,6 +180,8 @@ def heading(asked: argparse.Namespace, peers: list[str]) -> str:
     if asked.page:
         names = ["workload", "size", "growth", *[f"to {name}" for name in peers], "MB", *[f"MB of {name}" for name in peers[:1]]]
         return "| " + " | ".join(names) + " |\n" + "|---" * len(names) + "|"
+    if asked.audit:
+        return f"{'workload':<12}{'size':>6}{'seconds':>10}{'audit':>10}{'ratio':>8}"
     header = f"{'workload':<12}{'size':>6}{'seconds':>10}{'growth':>8}" + ("   turns" if asked.turns else "")
     return header + "".join(f"{'to ' + name:>20}" for name in peers)
 
@@ -174,6 +190,7 @@ def main() -> None:
     parser = argparse.ArgumentParser(description="Times the program on sessions, beside Macaulay2 and Singular.")
     parser.add_argument("workloads", nargs="*", metavar="WORKLOAD")
     parser.add_argument("--turns", action="store_true", help="count the turns of bases")
+    parser.add_argument("--audit", action="store_true", help="time what auditing costs, in place of the peers")
     parser.add_argument("--page", action="store_true", help="print the rows of docs/PERFORMANCE.md")
     parser.add_argument("--once", action="store_true", help="run each session once")
     parser.add_argument("--limit", type=int, default=Settings.limit, metavar="S", help="cut a run after so many seconds of a processor")
@@ -188,7 +205,7 @@ def main() -> None:
             continue
         before = None
         for size in sizes:
-            print_row = page_row if asked.page else row
+            print_row = page_row if asked.page else audit_row if asked.audit else row
             before = print_row(name, size, make(size), before, starts, asked.turns)
 
 

@@ -1,4 +1,5 @@
-"""The sessions that are timed, by name, each for rising sizes. All are made here, from fixed seeds."""
+"""The sessions that are timed, by name, each for rising sizes. All are made here, from fixed seeds, but those that the
+program generates, whose text is the words for it."""
 
 import itertools
 import random
@@ -242,6 +243,11 @@ def fifth(size: int) -> str:
     return f"ring 2 x\npoly f = x^5\nask jumps f {size}\n"
 
 
+def generated(size: int) -> str:
+    """The words by which the program answers the generated session of this number."""
+    return f"gen {size}"
+
+
 def thresholds(*places: str) -> Callable[[int], str]:
     """Thresholds of a cusp, a quartic and E_8 at these places, at the greatest E."""
     def session(prime: int) -> str:
@@ -288,4 +294,5 @@ WORKLOADS: list[Workload] = [
     ("quartic", jumps(3, QUARTIC), PRIMES),
     ("at-points", thresholds("O"), [5, 11]),
     ("at-ideals", thresholds("J", "K"), [5, 11]),
+    ("gen", generated, [60, 250, 1000]),
 ]
