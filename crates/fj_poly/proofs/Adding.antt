@@ -114,7 +114,8 @@ module _ {F : Field} (L : IsField F) (key : List ℕ → List ℕ) where
 
       pub cancelled_at : F.add (get_or ts i d).1 c ≡ 0 → Added F key (polynomial_of ts) (get_or ts i d).0 c (remove ts i)
       cancelled_at none =
-          let after : take i ts ++ drop (i + 1) ts ≡ remove ts i = ap (λ n. take i ts ++ drop n ts) (omega arith) in
+          let next : i + 1 ≡ suc i = omega arith in
+          let after : take i ts ++ drop (i + 1) ts ≡ remove ts i = ap (λ n. take i ts ++ drop n ts) next in
           subst (λ us. Added F key (polynomial_of us) (get_or ts i d).0 c (remove ts i)) whole
           (subst (Added F key (polynomial_of (take i ts ++ get_or ts i d ∷ drop (i + 1) ts)) (get_or ts i d).0 c) after
           (cancelled_between (take i ts) (drop (i + 1) ts) (get_or ts i d) c small (subst (IsFalling key) (sym whole) falls) (subst (AreTerms F) (sym whole) terms) none))

@@ -1,17 +1,24 @@
 -- The divisors of a monomial: where all terms of a polynomial divide m, those of its k-th power divide m^k, so that it has
 -- at most as many terms as m^k has divisors.
-use Rattle.std.proofs.Common.{◌≡◌, ℕ, zero, suc, ◌+◌, ◌*◌, ◌<◌, ◌≤◌, true, max, List, [], ◌∷◌, ◌++◌, length, map, take, drop, get_or, All, ◌⊎◌, inl, inr, refl, sym, ap, ap₂, ◌∙◌, subst, arith, ⊎_elim, mul_assoc, mul_comm}
+use Rattle.std.proofs.Common.{◌≡◌, ℕ, zero, suc, ◌+◌, ◌*◌, ◌<◌, ◌≤◌, IsTrue, true, max, Some, nat_cmp, slice_get, List, [], ◌∷◌, ◌++◌, length, map, take, drop, get_or, All, ◌⊎◌, inl, inr, refl, sym, ap, ap₂, ◌∙◌, subst, arith, ⊎_elim, mul_assoc, mul_comm}
 use Rattle.std.specs.FinMap.{len}
+use Rattle.std.specs.List.{list_any}
 use Rattle.std.proofs.Math.Nat.{eq-or-lt_of_le, mul-le-mul_right}
 use Rattle.std.proofs.lemmas.Bool.{and_parts, and_from, leb-true, le-leb}
+use Rattle.std.proofs.lemmas.Cmp.{eq_by_cmp_equiv, nat_list_cmp_total}
+use Rattle.std.proofs.lemmas.Map.Made.{All-is_member}
+use Rattle.std.proofs.lemmas.Option.{none-some, same_Some, slice_get-get_or}
 use Rattle.std.proofs.lemmas.List.{length-map, length-append, drop_more}
 use Rattle.std.proofs.lemmas.List.Elements.{All-nil, All-cons, All-head, All-tail, All-append, All-map, All-weaker}
 use Rattle.fj_coeff.specs.Field.{Field, IsField}
 use Rattle.fj_theory.specs.Exponents.{IsExponents, divides, least_common_multiple, origin, plus, times}
-use Rattle.fj_theory.specs.Polynomial.{Polynomial, IsPolynomial, power, support}
+use Rattle.fj_theory.specs.MonomialOrder.{IsMonomialOrder}
+use Rattle.fj_theory.specs.Polynomial.{Polynomial, IsPolynomial, coefficient, power, support, terms_falling}
 use Rattle.fj_theory.proofs.Exponents.{IsExponents-times, cons_same, divides_trans, length-times, origin_divides, times_suc}
-use Rattle.fj_theory.proofs.Polynomial.{support_exponents}
+use Rattle.fj_theory.proofs.FormalSum.{same}
+use Rattle.fj_theory.proofs.Polynomial.{support_exponents, support_found}
 use Rattle.fj_theory.proofs.PolynomialRing.{IsPolynomial-power}
+use Rattle.fj_theory.proofs.Terms.{find-terms_falling, find_All}
 use Rattle.fj_text.specs.Divisors.{divisor_count}
 use Rattle.fj_text.proofs.Members.{Has, has_all, has_left, has_right, has_mapped, len_among}
 use Rattle.fj_text.proofs.Sums.{sums, power_in_sums}
@@ -149,3 +156,33 @@ divisor_count-end k [] zero l = refl
 divisor_count-end k [] (suc i) l = refl
 divisor_count-end k (x ∷ a) zero l = absurd (omega arith)
 divisor_count-end k (x ∷ a) (suc i) l = divisor_count-end k a i (omega arith)
+
+-- A monomial that the terms up to the i-th divide, and one more.
+module _ (ts : List (List ℕ × ℕ)) (a : List ℕ) (i : ℕ) (u : List ℕ × ℕ) (n : List ℕ) where
+  pub multiple-more : length a ≡ length u.0 → ((j : ℕ) (t : List ℕ × ℕ) → j < i → slice_get ts j ≡ Some t → IsTrue (divides t.0 a)) → slice_get ts i ≡ Some u
+      → n ≡ least_common_multiple a u.0 → (j : ℕ) (t : List ℕ × ℕ) → j < i + 1 → slice_get ts j ≡ Some t → IsTrue (divides t.0 n)
+  multiple-more long before at next j t h own =
+      ⊎_elim
+      (λ e. let same : u ≡ t = same_Some u t (sym at ∙ ap (slice_get ts) (sym e) ∙ own) in
+      subst (λ v. divides v.0 n ≡ true) same (subst (λ b. divides u.0 b ≡ true) (sym next) (divides-lcm_right a u.0 long)))
+      (λ l. divides_trans t.0 a n (before j t l own) (subst (λ b. divides a b ≡ true) (sym next) (divides-lcm_left a u.0 long)))
+      (or_before (omega arith))
+    where
+      or_before : j ≤ i → (j ≡ i) ⊎ (j < i)
+      or_before le = eq-or-lt_of_le le
+
+pub within_list : (ts : List (List ℕ × ℕ)) (i : ℕ) (t : List ℕ × ℕ) → slice_get ts i ≡ Some t → i < length ts
+within_list [] i t e = absurd (none-some t e)
+within_list (u ∷ ts) zero t e = omega arith
+within_list (u ∷ ts) (suc i) t e = let rest = within_list ts i t e in omega (arith, rest)
+
+-- What all terms divide, each exponent list of the polynomial divides.
+pub divide-support : {key : List ℕ → List ℕ} (O : IsMonomialOrder key) {F : Field} {f : Polynomial} → IsPolynomial F f → (m : List ℕ)
+    → ((i : ℕ) (t : List ℕ × ℕ) → slice_get (terms_falling key f) i ≡ Some t → IsTrue (divides t.0 m)) → All (λ a. divides a m ≡ true) (support f)
+divide-support {key} O {F} {f} P m h =
+    All-weaker (λ b. list_any (same b) (support f) ≡ true) (λ b. divides b m ≡ true)
+    (λ b e. find_All (λ t. divides t.0 m ≡ true) (terms_falling key f) b (coefficient f b) each (find-terms_falling O P b ∙ support_found f b e)) (support f)
+    (All-is_member (eq_by_cmp_equiv nat_list_cmp_total) (support f))
+  where
+    each : All (λ t. divides t.0 m ≡ true) (terms_falling key f)
+    each k d l = h k (get_or (terms_falling key f) k d) (slice_get-get_or (terms_falling key f) k d l)
