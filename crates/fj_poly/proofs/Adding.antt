@@ -18,7 +18,7 @@ use Rattle.fj_theory.proofs.PolynomialRing.{sum_comm, sum_assoc, sum_empty}
 use Rattle.fj_poly.specs.Place.{IsPlace}
 use Rattle.fj_poly.specs.declared.poly.Term.{Term}
 use Rattle.fj_poly.specs.Terms.{AreTerms, entry, entries}
-use Rattle.fj_poly.proofs.Falling.{above_from_below, falling-back, falling-exponents, falling-front, falling-tail, falling-without, terms-append, terms-back, terms-front}
+use Rattle.fj_poly.proofs.Falling.{above_from_below, falling-back, falling-exponents, falling-tail, falling-without, terms-append, terms-back, terms-front}
 use Rattle.fj_poly.proofs.Polynomials.{each_term, polynomial_of, polynomial_of-term, IsPolynomial-polynomial_of, sum-append, sum-first, sum-terms, term-zero}
 use Rattle.fj_poly.proofs.View.{places_rise}
 

@@ -1,6 +1,6 @@
 -- The divisors of a monomial: where all terms of a polynomial divide m, those of its k-th power divide m^k, so that it has
 -- at most as many terms as m^k has divisors.
-use Rattle.std.proofs.Common.{◌≡◌, ℕ, zero, suc, ◌+◌, ◌*◌, ◌<◌, ◌≤◌, IsTrue, true, max, Some, nat_cmp, slice_get, List, [], ◌∷◌, ◌++◌, length, map, take, drop, get_or, All, ◌⊎◌, inl, inr, refl, sym, ap, ap₂, ◌∙◌, subst, arith, ⊎_elim, mul_assoc, mul_comm}
+use Rattle.std.proofs.Common.{◌≡◌, ℕ, zero, suc, ◌+◌, ◌*◌, ◌<◌, ◌≤◌, IsTrue, true, max, Some, slice_get, List, [], ◌∷◌, ◌++◌, length, map, drop, get_or, All, ◌⊎◌, inl, refl, sym, ap, ◌∙◌, subst, arith, ⊎_elim, mul_assoc, mul_comm}
 use Rattle.std.specs.FinMap.{len}
 use Rattle.std.specs.List.{list_any}
 use Rattle.std.proofs.Math.Nat.{eq-or-lt_of_le, mul-le-mul_right}
@@ -14,7 +14,7 @@ use Rattle.fj_coeff.specs.Field.{Field, IsField}
 use Rattle.fj_theory.specs.Exponents.{IsExponents, divides, least_common_multiple, origin, plus, times}
 use Rattle.fj_theory.specs.MonomialOrder.{IsMonomialOrder}
 use Rattle.fj_theory.specs.Polynomial.{Polynomial, IsPolynomial, coefficient, power, support, terms_falling}
-use Rattle.fj_theory.proofs.Exponents.{IsExponents-times, cons_same, divides_trans, length-times, origin_divides, times_suc}
+use Rattle.fj_theory.proofs.Exponents.{IsExponents-times, divides_trans, origin_divides, times_suc}
 use Rattle.fj_theory.proofs.FormalSum.{same}
 use Rattle.fj_theory.proofs.Polynomial.{support_exponents, support_found}
 use Rattle.fj_theory.proofs.PolynomialRing.{IsPolynomial-power}
@@ -123,9 +123,9 @@ module _ {F : Field} (L : IsField F) {f : Polynomial} (P : IsPolynomial F f) {m 
       let N : IsExponents (times k m) = IsExponents-times k M in
       let own : All (λ a. IsExponents a) (divisors (times k m)) = All-weaker (AsLong (length (times k m))) (λ a. IsExponents a) (λ a e. record { eight = e ∙ N.eight }) (divisors (times k m)) (divisors_long (times k m)) in
       let among = len_among L Q (divisors (times k m)) own (λ i d l.
-          let A : IsExponents (get_or (support (power F f j)) i d) = support_exponents Q i d l in
-          let low = has_all (Divide (times j m)) (sums j (support f)) _ (sums_divide M j (support f) all) (power_in_sums L P j i d l) in
-          has_divisor _ (times k m) (A.eight ∙ sym N.eight) (divides_trans _ (times j m) (times k m) low (times_rise j k m h))) in
+      let A : IsExponents (get_or (support (power F f j)) i d) = support_exponents Q i d l in
+      let low = has_all (Divide (times j m)) (sums j (support f)) _ (sums_divide M j (support f) all) (power_in_sums L P j i d l) in
+      has_divisor _ (times k m) (A.eight ∙ sym N.eight) (divides_trans _ (times j m) (times k m) low (times_rise j k m h))) in
       omega (arith, among, length-divisors (times k m))
 
 -- A common multiple of two monomials.

@@ -1,14 +1,13 @@
 -- Powers that are formed at once: degrees add, so that the last product of a power has the greatest degree, and where
 -- only the last power can have too many terms, it alone decides.
-use Rattle.std.proofs.Common.{◌≡◌, ℕ, zero, suc, ◌+◌, ◌*◌, ◌<◌, ◌≤◌, Bool, true, false, cond, ltb, ◌||◌, Option, Some, None, ◌⊎◌, inl, inr, refl, sym, ap, ◌∙◌, arith, ⊎_elim, unwrap_or}
-use Rattle.std.specs.FinMap.{empty, len}
+use Rattle.std.proofs.Common.{◌≡◌, ℕ, zero, suc, ◌*◌, ◌<◌, ◌≤◌, true, false, ltb, ◌||◌, Option, Some, None, ◌⊎◌, inl, inr, refl, sym, ap, ◌∙◌, arith, ⊎_elim, unwrap_or}
+use Rattle.std.specs.FinMap.{len}
 use Rattle.std.specs.Option.{option_and_then}
 use Rattle.std.proofs.lemmas.Bool.{cases_Bool, le-ltb, lt-ltb}
 use Rattle.std.proofs.Math.Nat.{mul-le-mul_left}
 use Rattle.fj_coeff.specs.Field.{Field, IsField}
 use Rattle.fj_theory.specs.Polynomial.{Polynomial, IsPolynomial, degree, power, product}
 use Rattle.fj_theory.proofs.Degree.{degree-empty, degree-power, empty_from_degree}
-use Rattle.fj_theory.proofs.Polynomial.{IsPolynomial-empty}
 use Rattle.fj_theory.proofs.PolynomialRing.{IsPolynomial-power, power_first, power_suc, product_comm, product_empty}
 use Rattle.fj_text.specs.Expression.{is_large, power_within, within}
 use Rattle.fj_text.proofs.Values.{or_true, power-one, power-step}

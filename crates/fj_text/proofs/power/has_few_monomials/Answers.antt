@@ -6,7 +6,7 @@ use Rattle.fj_text.proofs.power.has_few_monomials.Goals as goal
 
 pub returns-in-0 : goal.returns-in-0
 unfolding monomial_count
-returns-in-0 c yes = few c.args.t 0 c.args.d c.args.d c.in-0.is (lit≤ tt) (le-leb c.args.d c.args.d (omega arith))
+returns-in-0 c _ = few c.args.t 0 c.args.d c.args.d c.in-0.is (lit≤ tt) (le-leb c.args.d c.args.d (omega arith))
 
 pub returns-in-1 : goal.returns-in-1
 unfolding monomial_count
