@@ -10,3 +10,5 @@ pub mod Values
 pub mod Plain
 pub mod Leads
 pub mod Slots
+pub mod Adding
+pub mod Graded

@@ -1,3 +1,4 @@
 pub mod Terms
 pub mod Limit
 pub mod Slots
+pub mod Place

@@ -9,7 +9,9 @@ ghost use Rattle.fj_poly.specs.Limit.{IsHigh};
 ghost use Rattle.fj_poly.specs.Slots.{without_lead};
 ghost use Rattle.fj_poly.specs.Terms.{AreTerms, entries};
 
+mod adding;
 mod difference;
+mod graded;
 pub(crate) mod merge;
 mod plain;
 pub(crate) mod point;

@@ -13,7 +13,10 @@ pub mod PrintedLaw
 pub mod FirstVariables
 pub mod Readers
 pub mod Values
+mod Counts
+mod Members
 mod Sums
+mod Divisors
 mod Powers
 pub mod Repeats
 pub mod Parentheses

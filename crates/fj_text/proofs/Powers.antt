@@ -1,17 +1,15 @@
 -- Powers that are formed at once: degrees add, so that the last product of a power has the greatest degree, and where
 -- only the last power can have too many terms, it alone decides.
-use Rattle.std.proofs.Common.{◌≡◌, ℕ, zero, suc, ◌+◌, ◌*◌, ◌<◌, ◌≤◌, Bool, true, false, cond, ltb, ◌||◌, Option, Some, None, ◌⊎◌, inl, inr, refl, sym, ap, ◌∙◌, arith, ⊎_elim, unwrap_or}
-use Rattle.std.specs.FinMap.{empty, len}
+use Rattle.std.proofs.Common.{◌≡◌, ℕ, zero, suc, ◌*◌, ◌<◌, ◌≤◌, true, false, ltb, ◌||◌, Option, Some, None, ◌⊎◌, inl, inr, refl, sym, ap, ◌∙◌, arith, ⊎_elim, unwrap_or}
+use Rattle.std.specs.FinMap.{len}
 use Rattle.std.specs.Option.{option_and_then}
 use Rattle.std.proofs.lemmas.Bool.{cases_Bool, le-ltb, lt-ltb}
 use Rattle.std.proofs.Math.Nat.{mul-le-mul_left}
 use Rattle.fj_coeff.specs.Field.{Field, IsField}
 use Rattle.fj_theory.specs.Polynomial.{Polynomial, IsPolynomial, degree, power, product}
 use Rattle.fj_theory.proofs.Degree.{degree-empty, degree-power, empty_from_degree}
-use Rattle.fj_theory.proofs.Polynomial.{IsPolynomial-empty}
 use Rattle.fj_theory.proofs.PolynomialRing.{IsPolynomial-power, power_first, power_suc, product_comm, product_empty}
 use Rattle.fj_text.specs.Expression.{is_large, power_within, within}
-use Rattle.fj_text.proofs.Sums.{len-power_of_two}
 use Rattle.fj_text.proofs.Values.{or_true, power-one, power-step}
 
 within_large : (f : Polynomial) → is_large f ≡ true → within f ≡ None
@@ -74,14 +72,14 @@ module _ {F : Field} (L : IsField F) {f : Polynomial} (P : IsPolynomial F f) whe
       let above : ltb 1000 (unwrap_or (degree (power F f k)) 0) ≡ true = lt-ltb 1000 _ (omega (arith, degree_of_power k (omega arith))) in
       last_large k h (ap (λ b. ltb 1000 (len (power F f k)) || b) above ∙ or_true (ltb 1000 (len (power F f k))))
 
-  -- Of a power of at most two terms the last product decides.
-  pub power_of_two_terms : (k : ℕ) → 2 ≤ k → k ≤ 1000 → unwrap_or (degree f) 0 * k ≤ 1000 → len f ≤ 2 → power_within F f k ≡ within (power F f k)
+  -- Where the lower powers have at most 1,000 terms, the last product decides.
+  pub power_by_last : (k : ℕ) → 2 ≤ k → unwrap_or (degree f) 0 * k ≤ 1000 → ((j : ℕ) → j < k → len (power F f j) ≤ 1000) → power_within F f k ≡ within (power F f k)
   unfolding is_large
-  power_of_two_terms k two most low few = last_decides k two small
+  power_by_last k two low few = last_decides k two small
     where
       small : (j : ℕ) → 2 ≤ j → j < k → is_large (power F f j) ≡ false
       small j from to =
-          let terms : ltb 1000 (len (power F f j)) ≡ false = le-ltb _ _ (omega (arith, len-power_of_two L P few j)) in
+          let terms : ltb 1000 (len (power F f j)) ≡ false = le-ltb _ _ (few j to) in
           let rising : unwrap_or (degree f) 0 * j ≤ unwrap_or (degree f) 0 * k = mul-le-mul_left {m = j} {n = k} (unwrap_or (degree f) 0) (omega arith) in
           let degrees : ltb 1000 (unwrap_or (degree (power F f j)) 0) ≡ false = le-ltb _ _ (omega (arith, degree_of_power j (omega arith), rising, low)) in
           rw (terms, degrees) refl

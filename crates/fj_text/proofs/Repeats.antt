@@ -1,5 +1,5 @@
 -- Repeated turns: how a repetition begins, goes on, stops and fails.
-use Rattle.std.proofs.Common.{◌≡◌, ℕ, zero, suc, ◌<◌, ◌≤◌, List, [], ◌∷◌, length, Option, Some, None, IfSome, Ok, Err, refl, sym, ap, ◌∙◌, subst, arith}
+use Rattle.std.proofs.Common.{◌≡◌, ℕ, zero, suc, ◌<◌, ◌≤◌, List, [], ◌∷◌, length, Option, Some, None, IfNone, IfSome, Ok, Err, refl, sym, ap, ◌∙◌, subst, arith}
 use Rattle.std.specs.Option.{option_map_or}
 use Rattle.fj_text.specs.declared.fault.Fault.{Fault}
 use Rattle.fj_text.specs.declared.fault.ReadFault.{ReadFault}
@@ -74,3 +74,6 @@ turn-none {A} o old new turn e h = let P : Option A → Type 0 = λ u. ReadsTurn
 
 pub of_some : {A : Type 0} (o : Option A) (x : A) (P : Type 0) → o ≡ Some x → IfSome o (λ _. P) → P
 of_some {A} o x P e h = let Q : Option A → Type 0 = λ u. IfSome u (λ _. P) in subst Q e h
+
+pub of_none : {A : Type 0} (o : Option A) (P : Type 0) → o ≡ None → IfNone o P → P
+of_none {A} o P e h = let Q : Option A → Type 0 = λ u. IfNone u P in subst Q e h

@@ -1,20 +1,25 @@
 -- Values of an expression: opposites, products and powers.
-use Rattle.std.proofs.Common.{◌≡◌, ℕ, zero, suc, ◌+◌, ◌^◌, ◌<◌, ◌≤◌, Bool, true, false, cond, ltb, ◌||◌, List, [], ◌∷◌, set, Option, Some, None, Result, Ok, Err, IfOk, refl, sym, ap, ◌∙◌, subst, arith, unwrap_or}
+use Rattle.std.proofs.Common.{◌≡◌, ℕ, zero, suc, ◌+◌, ◌^◌, ◌<◌, ◌≤◌, Bool, true, false, cond, ltb, ◌||◌, List, [], ◌∷◌, length, set, slice_get, All, Option, Some, None, Result, Ok, Err, IfOk, refl, sym, ap, ◌∙◌, subst, arith, unwrap_or}
 use Rattle.std.specs.FinMap.{len}
 use Rattle.std.specs.Option.{option_and_then, IsSomeAnd}
 use Rattle.std.proofs.lemmas.Bool.{lt-ltb}
+use Rattle.std.proofs.lemmas.List.Elements.{All-head}
+use Rattle.std.proofs.lemmas.Option.{same_Some}
 use Rattle.fj_coeff.specs.Field.{Field, IsField}
 use Rattle.fj_algebra.specs.Ring.{CommutativeRing}
 use Rattle.fj_algebra.proofs.Ring.{neg_mul, one_mul}
 use Rattle.fj_theory.specs.Exponents.{origin}
+use Rattle.fj_theory.specs.MonomialOrder.{IsMonomialOrder}
 use Rattle.fj_theory.specs.PointIdeal.{variable_exponents}
-use Rattle.fj_theory.specs.Polynomial.{Polynomial, IsPolynomial, degree, negation, product, term}
+use Rattle.fj_theory.specs.Polynomial.{Polynomial, IsPolynomial, IsTerm, degree, negation, product, term, terms_falling}
 use Rattle.fj_theory.proofs.Exponents.{IsExponents-origin}
 use Rattle.fj_theory.proofs.Field.{one_below}
 use Rattle.fj_theory.proofs.FormalSum.{same}
 use Rattle.fj_theory.proofs.Polynomial.{polynomial_equal, coefficient-term, IsPolynomial-term}
 use Rattle.fj_theory.proofs.PolynomialRing.{PolynomialOver, polynomial_ring, map_one, map_neg, map_mul, coefficient-negation, IsPolynomial-negation, neg_zero_rank}
+use Rattle.fj_theory.proofs.Terms.{IsTerm-terms_falling, from_entries-terms_falling, length-terms_falling}
 use Rattle.fj_poly.specs.Limit.{IsHigh}
+use Rattle.fj_poly.proofs.Polynomials.{polynomial_of, polynomial_of-term}
 use Rattle.fj_text.specs.Expression.{is_large, power_within, within}
 
 module _ {F : Field} (L : IsField F) where
@@ -50,6 +55,19 @@ high_is_large f high = by (degree f) high
     by : (o : Option ℕ) → IsSomeAnd o (λ n. 2 ^ 40 < n) → cond (ltb 1000 (len f) || ltb 1000 (unwrap_or o 0)) None (Some f) ≡ None
     by None h = absurd h
     by (Some n) h = let above : ltb 1000 n ≡ true = lt-ltb 1000 n (omega arith) in rw (above, or_true (ltb 1000 (len f))) refl
+
+-- a polynomial of one term
+pub single_term : {F : Field} (L : IsField F) {key : List ℕ → List ℕ} (O : IsMonomialOrder key) {g : Polynomial} → IsPolynomial F g → len g ≡ 1 → (t : List ℕ × ℕ)
+    → slice_get (terms_falling key g) 0 ≡ Some t → g ≡ term t.1 t.0
+single_term {F} L {key} O {g} P one t first =
+    let listed : terms_falling key g ≡ t ∷ [] = only (terms_falling key g) (length-terms_falling O P ∙ one) first in
+    let positive : 0 < t.1 = (All-head (IsTerm F) t [] (subst (All (IsTerm F)) listed (IsTerm-terms_falling key P))).nonzero in
+    sym (from_entries-terms_falling O P) ∙ ap polynomial_of listed ∙ polynomial_of-term L t.0 t.1 positive
+  where
+    only : (ts : List (List ℕ × ℕ)) → length ts ≡ 1 → slice_get ts 0 ≡ Some t → ts ≡ t ∷ []
+    only [] e f = absurd (omega arith)
+    only (u ∷ []) e f = ap (λ v. v ∷ []) (same_Some u t f)
+    only (u ∷ v ∷ ts) e f = absurd (omega arith)
 
 -- ---- powers
 

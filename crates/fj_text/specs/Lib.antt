@@ -8,3 +8,4 @@ pub mod Reading
 pub mod Variable
 pub mod PrintedLaws
 pub mod Grammar
+pub mod Divisors

@@ -1,127 +1,25 @@
 //! Expressions, as polynomials.
-ghost use Rattle.std.specs.Prelude.{◌≡◌, ◌<◌, ◌≤◌, length, List, ℕ, IsTrue, IfOk, IfSome, Some, None};
+ghost use Rattle.std.specs.Prelude.{◌≡◌, ◌<◌, ◌≤◌, length, List, ℕ, IfOk, IfNone, IfSome};
 ghost use Rattle.fj_theory.specs.PointIdeal.{variable_exponents};
-ghost use Rattle.fj_theory.specs.Polynomial.{negation, power, product, term};
-ghost use Rattle.fj_text.specs.Expression.{atom, constant, exponent_of, expression, factor, first_term, formed, is_large, parenthesised, plus_term, power_within, sum_at, taking, term_at, times_factor, variable, within};
+ghost use Rattle.fj_theory.specs.Polynomial.{term};
+ghost use Rattle.fj_text.specs.Expression.{atom, constant, exponent_of, expression, factor, first_term, formed, parenthesised, plus_term, sum_at, taking, term_at, times_factor, variable};
 ghost use Rattle.fj_text.specs.Reading.{Reads, ReadsTurn};
 ghost use Rattle.fj_text.specs.Variable.{IsWithin};
 
 use super::fault::{Cause, ReadFault};
+use super::power::{MAX_EXPONENT, power_within};
 use super::reader::Reader;
 use super::scope::{Meaning, Scope};
 use super::token::{Token, WIDE};
+use super::value::{negative, product_within, sum_within};
 use fj_coeff::Coeff;
 use fj_mono::Mono;
-use fj_poly::{GPoly, Poly, PolyFault};
+use fj_poly::{GPoly, Poly};
 use std::alloc::{AllocError, Global};
-
-/// The most terms of a value.
-const MAX_TERMS: usize = 1000;
-
-/// The greatest degree of a value.
-const MAX_DEGREE: u64 = 1000;
-
-/// The greatest exponent.
-const MAX_EXPONENT: u64 = 1000;
+use std::mem;
 
 /// The most parentheses around each other.
 const MAX_DEPTH: u64 = 64;
-
-/// Whether a polynomial has more terms or a greater degree than a value may have.
-#[tactic(auto, unfolding(crate::specs::Expression::is_large))]
-fn is_large<K: Coeff>(f: &GPoly<K>) -> bool
-    ensures { result ≡ is_large f.now }
-{
-    f.len() > MAX_TERMS || f.degree().unwrap_or(0) > MAX_DEGREE
-}
-
-/// The polynomial, where it isn't large.
-fn within<K: Coeff>(f: GPoly<K>) -> Option<GPoly<K>>
-    ensures { result ≡ within f }
-{
-    if is_large(&f) { None } else { Some(f) }
-}
-
-/// The negative.
-fn negative<K: Coeff>(alloc: Global, f: &GPoly<K>) -> Result<GPoly<K>, AllocError>
-    ensures { IfOk result (λ p. p ≡ negation K.field f.now) }
-{
-    f.scale(alloc, K::one().neg())
-}
-
-/// The product, where it isn't large.
-fn product_within<K: Coeff>(
-    alloc: Global,
-    f: &GPoly<K>,
-    g: &GPoly<K>,
-) -> Result<Option<GPoly<K>>, AllocError>
-    ensures { IfOk result (λ p. p ≡ within (product K.field f.now g.now)) }
-{
-    match f.mul(alloc, g) {
-        Ok(product) => Ok(within(product)),
-        Err(PolyFault::High) => Ok(None),
-        Err(PolyFault::Memory) => Err(AllocError),
-    }
-}
-
-/// The k-th power by k - 1 products, where none of them is large, product by product.
-fn power_by_products<K: Coeff>(
-    alloc: Global,
-    f: &GPoly<K>,
-    k: u64,
-) -> Result<Option<GPoly<K>>, AllocError>
-    ensures { IfOk result (λ p. p ≡ power_within K.field f.now k) }
-{
-    if k == 0 {
-        return Ok(Some(Poly::term(alloc, K::one(), &Mono::one())?));
-    }
-    let mut power = f.copy(alloc)?;
-    'products: for _formed in 1..k {
-        let Some(product) = product_within(alloc, &power, f)? else {
-            return Ok(None);
-        };
-        power = product;
-    }
-    Ok(Some(power))
-}
-
-/// The k-th power, where it isn't large.
-fn last_power_within<K: Coeff>(
-    alloc: Global,
-    f: &GPoly<K>,
-    k: u64,
-) -> Result<Option<GPoly<K>>, AllocError>
-    ensures { IfOk result (λ p. p ≡ within (power K.field f.now k)) }
-{
-    match f.pow(alloc, k) {
-        Ok(power) => Ok(within(power)),
-        Err(PolyFault::High) => Ok(None),
-        Err(PolyFault::Memory) => Err(AllocError),
-    }
-}
-
-/// The k-th power by k - 1 products, where none of them is large.
-///
-/// The degree of the last product is the greatest one. Powers of at most two terms below the 1,000th have at most 1,000
-/// terms, so that the last one alone decides and is formed at once.
-fn power_within<K: Coeff>(
-    alloc: Global,
-    f: &GPoly<K>,
-    k: u64,
-) -> Result<Option<GPoly<K>>, AllocError>
-    ensures { IfOk result (λ p. p ≡ power_within K.field f.now k) }
-{
-    if k < 2 || k > MAX_EXPONENT {
-        return power_by_products(alloc, f, k);
-    }
-    if f.degree().unwrap_or(0).saturating_mul(k) > MAX_DEGREE {
-        return Ok(None);
-    }
-    if f.len() > 2 {
-        return power_by_products(alloc, f, k);
-    }
-    last_power_within(alloc, f, k)
-}
 
 /// The value of the subexpression that ends with the last token, where one was formed.
 fn formed<K: Coeff>(value: Option<GPoly<K>>, reader: &Reader) -> Result<GPoly<K>, ReadFault>
@@ -315,7 +213,7 @@ fn first_term<K: Coeff, S: Scope>(
     Ok(negative(alloc, &value)?)
 }
 
-/// A value plus the term behind a `+`, or less the term behind a `-`, where there is one.
+/// A value plus the term behind a `+`, or less the term behind a `-`, where there is one. Then the value is used up.
 #[cycle(expression)]
 #[tactic(auto, unfolding(crate::specs::Expression::plus_term))]
 fn plus_term<K: Coeff, S: Scope>(
@@ -323,21 +221,25 @@ fn plus_term<K: Coeff, S: Scope>(
     scope: &S,
     reader: &mut Reader,
     depth: u64,
-    value: &GPoly<K>,
+    value: &mut GPoly<K>,
 ) -> Result<Option<GPoly<K>>, ReadFault>
     requires { depth ≤ 64 }
     ensures reads { ReadsTurn result reader.old reader.new
-        (plus_term K.field (S.meaning scope.now) (parenthesised K.field (S.meaning scope.now) depth) value.now reader.old) }
+        (plus_term K.field (S.meaning scope.now) (parenthesised K.field (S.meaning scope.now) depth) value.old reader.old) }
     ensures taken { IfOk result (λ turn. IfSome turn (λ _. length reader.new.left < length reader.old.left)) }
+    ensures kept { IfOk result (λ turn. IfNone turn (value.new ≡ value.old)) }
 {
     if reader.take_sign(b'+') {
         let next = term(alloc, scope, reader, depth)?;
-        let sum = formed(within(value.add(alloc, &next)?), reader)?;
+        let before = mem::replace(value, Poly::zero(alloc));
+        let sum = formed(sum_within(alloc, before, &next)?, reader)?;
         return Ok(Some(sum));
     }
     if reader.take_sign(b'-') {
         let next = term(alloc, scope, reader, depth)?;
-        let difference = formed(within(value.sub(alloc, &next)?), reader)?;
+        let next = negative(alloc, &next)?;
+        let before = mem::replace(value, Poly::zero(alloc));
+        let difference = formed(sum_within(alloc, before, &next)?, reader)?;
         return Ok(Some(difference));
     }
     Ok(None)
@@ -358,7 +260,7 @@ fn sum<K: Coeff, S: Scope>(
     ensures taken { IfOk result (λ _. length reader.new.left < length reader.old.left) }
 {
     let mut total = first_term(alloc, scope, reader, depth)?;
-    'terms: while let Some(sum) = plus_term(alloc, scope, reader, depth, &total)? {
+    'terms: while let Some(sum) = plus_term(alloc, scope, reader, depth, &mut total)? {
         total = sum;
     }
     Ok(total)

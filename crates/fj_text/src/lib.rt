@@ -5,11 +5,13 @@ mod expression;
 mod fault;
 pub mod laws;
 mod names;
+mod power;
 mod printed;
 mod read;
 mod reader;
 mod scope;
 mod token;
+mod value;
 
 pub use expression::read_expression;
 pub use fault::{Cause, Fault, ReadFault, TextFault};

@@ -1,11 +1,11 @@
-use Rattle.std.proofs.Common.{ap, ◌∙◌, arith}
+use Rattle.std.proofs.Common.{Ok, ap, sym, ◌∙◌, arith}
 use Rattle.std.proofs.lemmas.Result.{err_from_is_err_and}
 use Rattle.fj_text.specs.declared.fault.Fault.{Fault}
 use Rattle.fj_text.specs.declared.fault.ReadFault.TheVariants.{At}
 use Rattle.fj_text.specs.Expression.{parenthesised, plus_term, times_factor}
 use Rattle.fj_text.specs.State.{unexpected}
 use Rattle.fj_text.proofs.Parentheses.{closed, parenthesised-more, parenthesised-zero, closes, not_closed, plus_term-left, reads-fault, reads-passed, reads-same, times_factor-left}
-use Rattle.fj_text.proofs.Repeats.{of_some, reads-refused, reads-stopped, repeat-more, turn-none, turn-some}
+use Rattle.fj_text.proofs.Repeats.{of_none, of_some, reads-refused, reads-stopped, repeat-more, turn-none, turn-some}
 use Rattle.fj_text.proofs.expression.+expression.Goals as goal
 
 pub parenthesised-returns-then-depth-eq0-clause-reads : goal.parenthesised-returns-then-depth-eq0-clause-reads
@@ -56,6 +56,7 @@ sum-returns-clause-reads g t c =
     let F = g.K.Coeff.field in
     let meaning = g.S.Scope.meaning c.args.scope.now in
     reads-stopped (plus_term F meaning (parenthesised F meaning c.args.depth)) c.terms.total c.terms.reader c.plus_term.new.reader _ c.terms.invariant.repeats (turn-none _ _ _ _ c.in_default.is c.in_ok-sum.ensures.reads)
+    ∙ ap (λ p. Ok (p, c.plus_term.new.reader)) (sym (of_none _ _ c.in_default.is c.in_ok-sum.ensures.kept))
 
 pub term-returns-in_err-product-clause-reads : goal.term-returns-in_err-product-clause-reads
 term-returns-in_err-product-clause-reads g t c =

@@ -2,7 +2,7 @@ use Rattle.std.proofs.Common.{ap, ◌∙◌}
 use Rattle.fj_theory.specs.Exponents.{origin}
 use Rattle.fj_theory.specs.Polynomial.{product, term}
 use Rattle.fj_text.proofs.Values.{if_ok, minus_one_times}
-use Rattle.fj_text.proofs.expression.negative.Goals as goal
+use Rattle.fj_text.proofs.value.negative.Goals as goal
 
 pub returns : goal.returns
 returns g c =

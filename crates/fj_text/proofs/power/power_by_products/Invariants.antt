@@ -1,6 +1,6 @@
 use Rattle.std.proofs.Common.{◌≡◌, Some}
 use Rattle.fj_text.specs.Expression.{power_within}
-use Rattle.fj_text.proofs.expression.power_by_products.Given as goal
+use Rattle.fj_text.proofs.power.power_by_products.Given as goal
 
 -- so many products were formed
 abbrev pub invariant-products : goal.invariant-products

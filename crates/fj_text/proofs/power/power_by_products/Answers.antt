@@ -2,7 +2,7 @@ use Rattle.std.proofs.Common.{◌≡◌, ◌+◌, ◌-◌, Some, sym, ap, ap₂,
 use Rattle.fj_theory.specs.Polynomial.{term}
 use Rattle.fj_text.specs.Expression.{power_within}
 use Rattle.fj_text.proofs.Values.{power-none, power-one, power-more, power-large}
-use Rattle.fj_text.proofs.expression.power_by_products.Goals as goal
+use Rattle.fj_text.proofs.power.power_by_products.Goals as goal
 
 pub returns-then-k-eq0 : goal.returns-then-k-eq0
 returns-then-k-eq0 g c =
