@@ -11,11 +11,12 @@ use super::types::{PartList, PartRow};
 use fj_coeff::Coeff;
 use fj_mono::{Elim, Grevlex, Grlex, Lex, Order};
 use fj_plain::{OrderName, PlainPoly};
-use fj_poly::Poly;
+use fj_poly::GPoly;
 use fj_root::{Part, parts};
 use std::alloc::{AllocError, Global};
 
-/// The parts of f at e over a field, their terms falling in the order with this name.
+/// The parts of f at e over a field, their terms falling in the order with this name. They are calculated in Grevlex whatever the
+/// order, so that the program has them for one order alone.
 pub(crate) fn part_rows<K: Coeff>(
     alloc: Global,
     order: OrderName,
@@ -27,39 +28,29 @@ pub(crate) fn part_rows<K: Coeff>(
     requires totals { All (λ t. total t.0 ≤ 2 ^ 40) f.now.terms }
     ensures { IfOk result (AreRows K.field (key_of order) e (polynomial f.now)) }
 {
+    let found = parts(alloc, e, &GPoly::<K>::from_plain(alloc, f)?)?;
     match order {
-        OrderName::Lex => ordered_rows::<K, Lex>(alloc, e, f),
-        OrderName::Grlex => ordered_rows::<K, Grlex>(alloc, e, f),
-        OrderName::Grevlex => ordered_rows::<K, Grevlex>(alloc, e, f),
-        OrderName::Elim => ordered_rows::<K, Elim>(alloc, e, f),
+        OrderName::Lex => rows::<K, Lex>(alloc, &found),
+        OrderName::Grlex => rows::<K, Grlex>(alloc, &found),
+        OrderName::Grevlex => rows::<K, Grevlex>(alloc, &found),
+        OrderName::Elim => rows::<K, Elim>(alloc, &found),
     }
 }
 
-/// The parts over a field, their terms falling in an order.
-fn ordered_rows<K: Coeff, O: Order>(
+/// The rows of parts, the terms of each part falling in an order.
+fn rows<K: Coeff, O: Order>(
     alloc: Global,
-    e: u32,
-    f: &PlainPoly,
+    parts: &[Part<K, Grevlex>],
 ) -> Result<PartList, AllocError>
-    requires small { e ≤ 12 }
-    requires ranks { HasRanksBelow K.field.size f.now }
-    requires totals { All (λ t. total t.0 ≤ 2 ^ 40) f.now.terms }
-    ensures { IfOk result (AreRows K.field O.key e (polynomial f.now)) }
-{
-    let poly = Poly::<K, O>::from_plain(alloc, f)?;
-    rows(alloc, &parts(alloc, e, &poly)?)
-}
-
-/// The rows of parts.
-fn rows<K: Coeff, O: Order>(alloc: Global, parts: &[Part<K, O>]) -> Result<PartList, AllocError>
     ensures parts { IfOk result (λ rows. map part_of rows ≡ parts_of parts.now) }
     ensures falling { IfOk result (All (λ row. row.poly.terms ≡ terms_falling O.key (polynomial row.poly))) }
 {
     let mut rows = Vec::with_capacity(alloc, parts.len())?;
     for part in parts {
+        let poly = part.poly.reorder::<O>(alloc)?;
         rows.push(PartRow {
             residue: part.residue,
-            poly: part.poly.to_plain(alloc)?,
+            poly: poly.to_plain(alloc)?,
         })?;
     }
     Ok(PartList::of(rows))
