@@ -116,6 +116,19 @@ def fits_list(answer: Jumps, found: list[formulas.Monomials], session: Session) 
     return all(at(step) <= {monomials(step.ideal, session)} for step in steps)
 
 
+def answer_to(number: int, lines: list[str]) -> str:
+    """The lines of the answer to one question, without its number."""
+    return "\n".join(line.removeprefix(f"{number}: ") for line in lines if line.startswith(f"{number}: "))
+
+
+def fits_formula(text: str, told: str) -> bool:
+    """Whether what a formula gives is the answer, or a threshold inside the open gap that is told."""
+    if told.startswith("between "):
+        gap = read_answer(told)
+        return Fraction(gap.low) < Fraction(text.removeprefix("threshold ")) < Fraction(gap.high)
+    return text == told
+
+
 def by_roots(session: Session, lines: list[str]) -> dict[int, bool]:
     """Which answers fit the Frobenius roots of powers, by the number of their question."""
     fits = {}
@@ -129,8 +142,7 @@ def by_roots(session: Session, lines: list[str]) -> dict[int, bool]:
                 continue
         found = roots(session.polynomials[f], tuple(session.variables), session.prime) if is_expanded(session.polynomials[f]) else []
         if found:
-            own = [line.partition(": ")[2] for line in lines if line.startswith(f"{question.number}: ")]
-            fits[question.number] = check(read_answer("\n".join(own)), found)
+            fits[question.number] = check(read_answer(answer_to(question.number, lines)), found)
     return fits
 
 
@@ -159,7 +171,7 @@ def compare(name: str, is_asking: bool) -> bool:
     session = read((HERE / f"{name}.session").read_text())
     lines = (HERE / f"{name}.answers").read_text().splitlines()
     known = by_formula(session)
-    wrong = [f"{n}: {text}, by a formula" for n, text in known.items() if f"{n}: {text}" not in lines]
+    wrong = [f"{n}: {text}, by a formula" for n, text in known.items() if not fits_formula(text, answer_to(n, lines))]
     fits = by_roots(session, lines)
     wrong += [f"{n}: not so, by the roots of powers" for n, is_so in fits.items() if not is_so]
     told = by_macaulay(session) if is_asking else None
