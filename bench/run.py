@@ -1,18 +1,19 @@
 #!/usr/bin/env python3
 """Times the built program on sessions, and beside it Macaulay2 and Singular on the same questions, where installed.
 
-`bench/run.py [--turns] [--audit] [--page] [--once] [--limit S] [--program PATH] [WORKLOAD ..]`; the workloads are those of
-`bench/workloads.py`, all of them where none is named. The program is built by `bin/fjcalc` where none is named. A time is that of a processor, the least of up to five runs, less that of
-an empty session or script, so start-up is left out; below a thousandth of a second it says nothing, and for Singular
-below five. Macaulay2 starts in a second and answers in thousandths, so its script tells the time from after its packages
-on. A ratio is the program's time over the peer's; for `basis` Singular is asked for `liftstd`, which returns
-cofactors too, and in a column of its own for `std`, which doesn't. Where a peer has no call for a question (Singular
-for Frobenius roots) the ratio is left out, where its answers differ from the program's the row says so, and where it
-takes over a minute of a processor, or the limit, it is cut: the ratio is then below what is printed. With `--once` each
-is run once. With `--turns` the least budget with which no question is stopped is looked for, by bisection: the number of
+`bench/run.py [--turns] [--audit] [--page] [--once] [--limit S] [--program PATH] [WORKLOAD ..]`; the workloads are those
+of `bench/workloads.py`, all of them where none is named. The program is built by `bin/fjcalc` where none is named. A
+time is that of a processor, the least of up to five runs, less that of an empty session or script, so start-up is left
+out; below a thousandth of a second it says nothing, and for Singular below a hundredth, where the row says that it was
+too short. Macaulay2 starts in a second and answers in thousandths, so its script tells the time from after its packages
+on. A ratio is the program's time over the peer's; for `basis` Singular is asked for `liftstd`, which returns cofactors
+too, and in a column of its own for `std`, which doesn't. Where a peer has no call for a question (Singular for
+Frobenius roots) the ratio is left out, where its answers differ from the program's the row says so, and where it takes
+over a minute of a processor, or the limit, it is cut: the ratio is then below what is printed. With `--once` each is
+run once. With `--turns` the least budget with which no question is stopped is looked for, by bisection: the number of
 turns that the run takes. With `--audit` no peer is asked: beside the seconds stand those that the program takes longer
-where its answers are audited, and their ratio. With `--page` the rows are those of docs/PERFORMANCE.md: no times, but the greatest memory of
-the program and of Macaulay2 in MB, and how the time grew from the row before.
+where its answers are audited, and their ratio. With `--page` the rows are those of docs/PERFORMANCE.md: no times, but
+the greatest memory of the program and of Macaulay2 in MB, and how the time grew from the row before.
 """
 
 import argparse
@@ -32,6 +33,7 @@ from workloads import WORKLOADS
 TOP = pathlib.Path(__file__).resolve().parent.parent
 ENOUGH = 3.0  # seconds after which a run isn't repeated
 LEAST = 1e-4
+CLOCK = 0.01  # the step of the clock of a peer that doesn't tell its own time
 SMALL = 0.01  # seconds below which a growth says nothing
 COUNTED = ("cyclic", "katsura", "quadrics")
 
@@ -46,12 +48,14 @@ class Settings:
 
 @dataclasses.dataclass
 class Timed:
-    """What a command printed, before it was cut too, its least seconds of a processor, whether it was cut, and its memory in MB."""
+    """What a command printed, before it was cut too, its least seconds of a processor, whether it was cut, its memory in MB,
+    and the seconds below which its time says nothing."""
 
     lines: list[str]
     seconds: float
     was_cut: bool
     memory: float
+    least: float = LEAST
 
     def less(self, start: float) -> "Timed":
         """The same without start-up."""
@@ -103,7 +107,10 @@ def peer_answered(peer: Peer, text: str, start: float) -> Timed | None:
         return None
     timed = run(peer.command, script)
     told = peer.seconds_told(timed.lines)
-    timed = timed.less(start) if told is None else dataclasses.replace(timed, seconds=max(told, LEAST))
+    if told is None:
+        timed = dataclasses.replace(timed.less(start), least=CLOCK)
+    else:
+        timed = dataclasses.replace(timed, seconds=max(told, LEAST))
     return dataclasses.replace(timed, lines=peer.answers(timed.lines, session))
 
 
@@ -121,6 +128,8 @@ def turns(session: str) -> int:
 def ratio(there: Timed | None, own: Timed) -> str:
     if there is None:
         return "-"
+    if there.seconds < there.least:
+        return "too short" + ("" if there.lines == own.lines else " differs")
     quotient = own.seconds / there.seconds
     figure = f"{quotient:.2f}" if quotient >= 0.1 else f"{quotient:.2g}"
     if own.was_cut or there.was_cut:
