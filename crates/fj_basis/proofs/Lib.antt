@@ -15,6 +15,7 @@ pub mod Height
 pub mod Reached
 pub mod Places
 pub mod Leading
+pub mod MonicMembers
 pub mod PendingSets
 pub mod ReplacingSteps
 pub mod PrimeField
@@ -31,6 +32,8 @@ pub mod FormedRows
 pub mod Marks
 pub mod Turning
 pub mod Starting
+pub mod SugaredRun
+pub mod SugaredRows
 pub mod Copies
 pub mod Dividing
 pub mod Held

@@ -23,7 +23,7 @@ use Rattle.fj_basis.proofs.NextMember.{constant-degree, sugar-rises, zero-sum}
 use Rattle.fj_basis.proofs.RowBounds.{term-positive}
 use Rattle.fj_basis.proofs.Rows.{negation-positive}
 
-both-IsPolynomial : {F : Field} (G B : List Sugared) → ArePolynomials F (polynomials_of G) → ArePolynomials F (polynomials_of B) → (k : ℕ) → IsPolynomial F (member_at (G ++ B) k).polynomial
+pub both-IsPolynomial : {F : Field} (G B : List Sugared) → ArePolynomials F (polynomials_of G) → ArePolynomials F (polynomials_of B) → (k : ℕ) → IsPolynomial F (member_at (G ++ B) k).polynomial
 unfolding member_at
 both-IsPolynomial [] B P Q k = member_at-IsPolynomial B Q k
 both-IsPolynomial (g ∷ G) B P Q zero = ArePolynomials-head P

@@ -3,6 +3,7 @@ pub mod Quotients
 pub mod Members
 pub mod History
 pub mod Forming
+pub mod SugaredRun
 pub mod Place
 pub mod PlaceLaws
 pub mod Pending

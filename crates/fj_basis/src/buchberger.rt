@@ -1,11 +1,14 @@
 //! Reduced bases by Buchberger's algorithm: the run, its finishing and its cofactors, and where it stops.
-ghost use Rattle.std.specs.Prelude.{◌≡◌, IfOk, length};
+ghost use Rattle.std.specs.Prelude.{◌≡◌, ℕ, true, IfOk, length, map};
+ghost use Rattle.fj_groebner.specs.Division.{polynomials_of};
 ghost use Rattle.fj_groebner.specs.ReducedBasis.{IsReducedBasis};
+ghost use Rattle.fj_groebner.specs.Rows.{AreRows};
 ghost use Rattle.fj_groebner.specs.Run.{TooHigh, Unfinished};
 ghost use Rattle.fj_plain.specs.OrderRow.{order_in_row};
 ghost use Rattle.fj_basis.specs.Basis.{IsMadeOf, IsResult};
 ghost use Rattle.fj_basis.specs.Buchberger.{IsFinishedRun};
-ghost use Rattle.fj_basis.specs.Outcome.{IsFaultOnlyWhere, IsStopOf, IsStopWhere};
+ghost use Rattle.fj_basis.specs.Members.{sugared_members};
+ghost use Rattle.fj_basis.specs.Outcome.{IsFaultOnlyWhere, IsHighOnlyWhere, IsStopOf, IsStopWhere};
 ghost use Rattle.fj_basis.specs.State.{IsEnded};
 
 use crate::certificate::kept;
@@ -15,11 +18,15 @@ use crate::history::History;
 use crate::members::{Member, Row, polynomials};
 use crate::run::Run;
 use crate::stop::Stop;
+use crate::sugared_rows::sugared_rows;
 use crate::types::Basis;
 use fj_coeff::Coeff;
 use fj_mono::Order;
 use fj_poly::{Poly, PolyFault};
 use std::alloc::{AllocError, Global};
+
+/// A run has at least this many members where its cofactors are taken from a second run.
+const LONG_RUN: usize = 12;
 
 // Why a run is refused.
 #[derive(Drop)]
@@ -108,6 +115,29 @@ fn finished<K: Coeff, O: Order>(
     })
 }
 
+// The cofactors over the list of the members of its basis: by a second run where it finds them, else from how they were made.
+// Where few members were made a second run takes longer than it saves.
+fn down_rows<K: Coeff, O: Order>(
+    alloc: Global,
+    list: &[Poly<K, O>],
+    found: &FinishedRun<K, O>,
+) -> Result<Vec<Row<K, O>>, PolyFault>
+    requires finished { (pairs : ℕ) × IsFinishedRun K.field O.key list.now pairs found.now }
+    requires kept { found.now.history.is_kept ≡ true }
+    ensures value { IfOk result (λ rows. AreRows K.field list.now (polynomials_of (sugared_members found.now.members.items)) (map (λ row. row.items) rows.items)) }
+    ensures high { IsHighOnlyWhere ⊥ result }
+{
+    if found.from >= LONG_RUN {
+        let turns = found.from.saturating_mul(found.from);
+        match sugared_rows(alloc, list, &found.members, turns) {
+            Ok(Some(rows)) => return Ok(rows),
+            Err(PolyFault::Memory) => return Err(PolyFault::Memory),
+            Ok(None) | Err(PolyFault::High) => {}
+        }
+    }
+    rows_from(alloc, list, &found.history.makings, found.from)
+}
+
 // The reduced basis, with cofactors both ways.
 fn with_cofactors<K: Coeff, O: Order>(
     alloc: Global,
@@ -120,7 +150,7 @@ fn with_cofactors<K: Coeff, O: Order>(
     ensures fault { IsFaultOnlyWhere (Unfinished K.field O.key list.now pairs) (TooHigh K.field O.key list.now pairs) result }
 {
     let found = finished(alloc, list, pairs, true)?;
-    let down = rows_from(alloc, list, &found.history.makings, found.from)?;
+    let down = down_rows(alloc, list, &found)?;
     let members = polynomials(alloc, found.members)?;
     Ok(Basis::new(members, down, found.up))
 }

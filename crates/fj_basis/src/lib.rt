@@ -12,11 +12,15 @@ mod forming;
 mod history;
 mod leads;
 mod members;
+mod pair_member;
 mod pairs;
 mod pending;
 mod run;
 mod stop;
 mod sugar;
+mod sugared_pairs;
+mod sugared_rows;
+mod sugared_run;
 pub mod types;
 
 pub use buchberger::{basis, reduced_basis};

@@ -10,21 +10,8 @@ use Rattle.fj_basis.specs.Members.{sugared_members}
 use Rattle.fj_basis.proofs.MadeRows.{AreRows-formed, AreRows-long, AreRows-wide, polynomials-sugared}
 use Rattle.fj_basis.proofs.buchberger.with_cofactors.Goals as goal
 
-pub rows_from-requires-clause-made : goal.rows_from-requires-clause-made
-rows_from-requires-clause-made g c =
-    let F = g.K.Coeff.field in
-    let run = c.in_ok-found.ensures.value in
-    let G = run.before ++ sugared_members c.in_ok-found.found.members.items in
-    record { all = G; made = subst (AreMade F c.args.list.now G) (sym c.deref.ensures.value) (run.history.made c.in_ok-found.ensures.kept) }
-
-pub rows_from-requires-clause-from : goal.rows_from-requires-clause-from
-rows_from-requires-clause-from g c =
-    let run = c.in_ok-found.ensures.value in
-    let G = sugared_members c.in_ok-found.found.members.items in
-    let made = (run.history.made c.in_ok-found.ensures.kept).long in
-    let from = run.from in
-    let same = ap length c.deref.ensures.value in
-    omega (arith, made, from, same, length-append run.before G)
+pub down_rows-requires-clause-finished : goal.down_rows-requires-clause-finished
+down_rows-requires-clause-finished g c = (c.args.pairs, c.in_ok-found.ensures.value)
 
 pub new-requires-clause-rows : goal.new-requires-clause-rows
 new-requires-clause-rows g c =
@@ -32,9 +19,7 @@ new-requires-clause-rows g c =
     let run = c.in_ok-found.ensures.value in
     let G = sugared_members c.in_ok-found.found.members.items in
     let rows = map (λ row. row.items) c.in_ok-down.down.items in
-    let made = run.history.made c.in_ok-found.ensures.kept in
-    let formed = c.in_ok-down.ensures.value (run.before ++ G) (subst (AreMade F c.args.list.now (run.before ++ G)) (sym c.deref.ensures.value) made) in
-    let down : AreRows F c.args.list.now (polynomials_of G) rows = AreRows-formed run.before G c.in_ok-found.found.from rows run.from formed in
+    let down : AreRows F c.args.list.now (polynomials_of G) rows = c.in_ok-down.ensures.value in
     sym (length-map c.in_ok-down.down.items (λ row. row.items)) ∙ AreRows-long F c.args.list.now (polynomials_of G) rows down
     ∙ ap length (polynomials-sugared c.in_ok-found.found.members.items ∙ sym c.in_ok-members.ensures)
 
@@ -44,9 +29,7 @@ new-requires-clause-down g c =
     let run = c.in_ok-found.ensures.value in
     let G = sugared_members c.in_ok-found.found.members.items in
     let rows = map (λ row. row.items) c.in_ok-down.down.items in
-    let made = run.history.made c.in_ok-found.ensures.kept in
-    let formed = c.in_ok-down.ensures.value (run.before ++ G) (subst (AreMade F c.args.list.now (run.before ++ G)) (sym c.deref.ensures.value) made) in
-    let down : AreRows F c.args.list.now (polynomials_of G) rows = AreRows-formed run.before G c.in_ok-found.found.from rows run.from formed in
+    let down : AreRows F c.args.list.now (polynomials_of G) rows = c.in_ok-down.ensures.value in
     let up = map (λ row. row.items) c.in_ok-found.found.up.items in
     subst (λ n. All (λ row. length row.items ≡ n) c.in_ok-down.down.items)
     (sym (AreRows-long F (polynomials_of G) c.args.list.now up run.up) ∙ length-map c.in_ok-found.found.up.items (λ row. row.items))
@@ -82,9 +65,7 @@ returns-clause-made g c =
     let run = c.in_ok-found.ensures.value in
     let G = sugared_members c.in_ok-found.found.members.items in
     let rows = map (λ row. row.items) c.in_ok-down.down.items in
-    let made = run.history.made c.in_ok-found.ensures.kept in
-    let formed = c.in_ok-down.ensures.value (run.before ++ G) (subst (AreMade F c.args.list.now (run.before ++ G)) (sym c.deref.ensures.value) made) in
-    let down : AreRows F c.args.list.now (polynomials_of G) rows = AreRows-formed run.before G c.in_ok-found.found.from rows run.from formed in
+    let down : AreRows F c.args.list.now (polynomials_of G) rows = c.in_ok-down.ensures.value in
     let members = polynomials-sugared c.in_ok-found.found.members.items ∙ sym c.in_ok-members.ensures ∙ sym c.new.ensures.members in
     record {
       down = subst₂ (AreRows F c.args.list.now) members (sym c.new.ensures.down) down;
