@@ -37,7 +37,7 @@ fn a_byte_more_than_the_limit_is_refused(rt: HostRuntime) -> Result<(), Fail> {
 fn commented(alloc: Global, len: usize) -> Result<Vec<u8>, AllocError> {
     let mut session = Vec::new(alloc);
     session.extend_from_slice(b"ring 2 x\npoly f = x\nask parts 0 f\n#")?;
-    while session.len() < len {
+    for _ in session.len()..len {
         session.push(b'.')?;
     }
     Ok(session)
