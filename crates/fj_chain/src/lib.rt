@@ -8,5 +8,5 @@ mod multiples;
 mod steps;
 
 pub use chain::{chain_from, falling, rising};
-pub use limits::{is_jump, left_limit, test_ideal};
+pub use limits::{is_jump, left_limit, reduced_left_limit, reduced_test_ideal, test_ideal};
 pub use steps::{follow, step};

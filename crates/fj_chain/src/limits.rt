@@ -91,8 +91,10 @@ pub fn is_jump<K: Coeff>(alloc: Global, f: &GPoly<K>, t: &Ratio, pairs: u64) -> 
     Ok(!left.same(&at))
 }
 
-// The test ideal, without cofactors.
-fn reduced_test_ideal<K: Coeff>(
+/// The test ideal as `test_ideal`, without cofactors.
+///
+/// It stops only where `test_ideal` may.
+pub fn reduced_test_ideal<K: Coeff>(
     alloc: Global,
     f: &GPoly<K>,
     t: &Ratio,
@@ -113,8 +115,10 @@ fn reduced_test_ideal<K: Coeff>(
     limit_from(alloc, f, f, t, pairs)
 }
 
-// The limit from the left, without cofactors.
-fn reduced_left_limit<K: Coeff>(
+/// The limit from the left as `left_limit`, without cofactors.
+///
+/// It stops only where `left_limit` may.
+pub fn reduced_left_limit<K: Coeff>(
     alloc: Global,
     f: &GPoly<K>,
     t: &Ratio,

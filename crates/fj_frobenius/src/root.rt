@@ -70,7 +70,7 @@ pub fn root_of_multiples<K: Coeff>(
 /// The same step among ideals that are kept without cofactors: the Frobenius root at 1 of the multiples f^d*J, made of the
 /// parts at 1 of f^d*g for the members g of J, in order, with at most `pairs` turns.
 ///
-/// It stops as `root_of_multiples` does.
+/// It stops only where `root_of_multiples` may, and seldom as soon, since its basis is found from fewer generators.
 pub fn reduced_root_of_multiples<K: Coeff>(
     alloc: Global,
     d: u64,
@@ -87,7 +87,7 @@ pub fn reduced_root_of_multiples<K: Coeff>(
     let _ = f.is_zero();
     let members = ideal.members();
     let list = step_list(alloc, d, f, members)?;
-    Reduced::of_owned(alloc, list, pairs)
+    Reduced::by_thinning(alloc, list, pairs)
 }
 
 // The parts at 1 of f^d*g for the polynomials g of a list, in order.

@@ -4,3 +4,4 @@ pub mod Lists
 pub mod Stops
 pub mod HighProducts
 pub mod Products
+pub mod Congruence

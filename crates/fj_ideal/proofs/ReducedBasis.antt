@@ -96,6 +96,13 @@ module _ {F : Field} (L : IsField F) where
     pub unit_is_single : Member F M (term 1 origin) → length G ≡ 1
     unit_is_single m = ap length (one_member m)
 
+    -- The ideal is inside another exactly where the basis is.
+    pub Inside-basis : {N : List Polynomial} → ArePolynomials F N → Inside F M N ↔ Inside F G N
+    Inside-basis Q =
+        let same = IsReducedBasis-SameIdeal grevlex L P S in
+        let R = IsReducedBasis_polynomials grevlex L P S in
+        (Inside-trans L R P Q same.back, Inside-trans L P R Q same.forth)
+
     -- Of another list and its basis: the ideals are equal exactly where the bases are.
     pub same_bases : {N H : List Polynomial} → ArePolynomials F N → IsReducedBasis F grevlex_key N H → SameIdeal F M N ↔ (G ≡ H)
     same_bases Q T = SameIdeal-IsReducedBasis grevlex L P Q S T

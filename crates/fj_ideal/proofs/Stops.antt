@@ -97,9 +97,11 @@ module _ (F : Field) (budget : ℕ) where
     run_as only low r h =
         exactly_as (RunFor order (λ M. M ≡ L)) (RunFor order P) NoProduct S (λ o M e. (e.0, subst P (sym e.1) list)) (λ M none. absurd none) (λ o M e. (e.0, only M e.1)) low r h
 
+    pub only_as : {T : Type 0} (r : Result T Stop) → StopsOnlyWith F (RunFor order (λ M. M ≡ L)) NoProduct budget r → StopsOnlyWith F (RunFor order P) S budget r
+    only_as r h = only_of_more (RunFor order (λ M. M ≡ L)) (RunFor order P) NoProduct S (λ o M e. (e.0, subst P (sym e.1) list)) (λ M none. absurd none) r h
+
     pub run_only_as : {T : Type 0} (r : Result T Stop) → StopsExactlyWith F (RunFor order (λ M. M ≡ L)) NoProduct budget r → StopsOnlyWith F (RunFor order P) S budget r
-    run_only_as r h =
-        only_of_more (RunFor order (λ M. M ≡ L)) (RunFor order P) NoProduct S (λ o M e. (e.0, subst P (sym e.1) list)) (λ M none. absurd none) r (only_from_exactly (RunFor order (λ M. M ≡ L)) NoProduct r h)
+    run_only_as r h = only_as r (only_from_exactly (RunFor order (λ M. M ≡ L)) NoProduct r h)
 
   -- Where products are refused, and no list was run, the call stops so.
   module _ (P : OrderName → List Polynomial → Type 0) (R S : List Polynomial → Type 0) (f : (M : List Polynomial) → R M → S M) where

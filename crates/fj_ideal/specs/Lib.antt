@@ -1,3 +1,4 @@
+pub mod Congruent
 pub mod Ideal
 pub mod Reduced
 pub mod Stop

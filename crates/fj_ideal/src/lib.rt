@@ -6,6 +6,7 @@ mod membership;
 mod operations;
 mod reduced;
 mod tables;
+mod thinning;
 
 pub use ideal::Ideal;
 pub use operations::kept_pair;

@@ -33,7 +33,14 @@ impl<K: Coeff> Ideal<K> {
     {
         // What is given of this ideal are polynomials.
         let _ = self.given();
-        for g in o.members() {
+        self.has_all(alloc, o.members())
+    }
+
+    /// Whether each polynomial of a list is in the ideal.
+    pub fn has_all(&self, alloc: Global, list: &[GPoly<K>]) -> Result<bool, AllocError>
+        ensures { IfOk result (λ b. IsTrue b ↔ Inside K.field list.now self.now.given) }
+    {
+        for g in list {
             if self.member(alloc, g)?.is_none() {
                 return Ok(false);
             }

@@ -1,15 +1,16 @@
 //! Ideals by their reduced Grevlex bases alone, without cofactors: those on the way to an answer.
 ghost use Rattle.std.specs.Prelude.{◌≡◌, ◌↔◌, IfOk, IsTrue};
 ghost use Rattle.fj_theory.specs.Exponents.{origin};
-ghost use Rattle.fj_theory.specs.Ideal.{Member, SameIdeal};
+ghost use Rattle.fj_theory.specs.Ideal.{Inside, Member, SameIdeal};
 ghost use Rattle.fj_theory.specs.Polynomial.{term};
 ghost use Rattle.fj_plain.specs.declared.order_name.OrderName.TheVariants as orders;
 ghost use Rattle.fj_ideal.specs.Ideal.{IsIdealOf};
 ghost use Rattle.fj_ideal.specs.Lists.{NoProduct, RunFor};
 ghost use Rattle.fj_ideal.specs.Reduced.{IsReduced, IsReducedOf};
-ghost use Rattle.fj_ideal.specs.Stop.{StopsExactlyWith};
+ghost use Rattle.fj_ideal.specs.Stop.{StopsExactlyWith, StopsOnlyWith};
 
 use crate::ideal::{Ideal, are_same};
+use crate::thinning::thinned_basis;
 use fj_basis::{Stop, copy_list, look_over, reduced_basis};
 use fj_coeff::Coeff;
 use fj_poly::{GPoly, Poly};
@@ -60,6 +61,22 @@ impl<K: Coeff> Reduced<K> {
         Ok(Reduced { given, members })
     }
 
+    /// The ideal of a list that it takes: as `of_owned`, but its basis is found from fewer and simpler generators where a run
+    /// on these has at most `pairs` turns.
+    ///
+    /// `Pairs` and `High` only where the run on the list is unfinished or too high. Both keep the list, its terms falling in
+    /// Grevlex. `Product` never comes.
+    pub fn by_thinning(alloc: Global, given: Vec<GPoly<K>>, pairs: u64) -> Result<Reduced<K>, Stop>
+        ensures value { IfOk result (IsReducedOf K.field given.items) }
+        ensures stop { StopsOnlyWith K.field (RunFor orders.Grevlex (λ L. L ≡ given.items)) NoProduct pairs result }
+    {
+        look_over(&given);
+        match thinned_basis(alloc, &given, pairs)? {
+            Some(members) => Ok(Reduced { given, members }),
+            None => Reduced::of_owned(alloc, given, pairs),
+        }
+    }
+
     /// The list that the ideal was made of.
     pub fn given(&self) -> &[GPoly<K>]
         ensures value { result.now ≡ self.now.given }
@@ -86,6 +103,15 @@ impl<K: Coeff> Reduced<K> {
             [member] => member.degree() == Some(0),
             _ => false,
         }
+    }
+
+    /// Whether this ideal is inside the other one.
+    pub fn is_inside(&self, alloc: Global, o: &Ideal<K>) -> Result<bool, AllocError>
+        ensures { IfOk result (λ b. IsTrue b ↔ Inside K.field self.now.given o.now.given) }
+    {
+        // What is given of the other ideal are polynomials.
+        let _ = o.given();
+        o.has_all(alloc, self.members())
     }
 
     /// Whether the two are one ideal: their bases are equal, and nothing is run.

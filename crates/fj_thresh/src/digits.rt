@@ -4,16 +4,16 @@ ghost use Rattle.fj_theory.specs.Digits.{value_of};
 ghost use Rattle.fj_theory.specs.Exponents.{origin};
 ghost use Rattle.fj_theory.specs.Polynomial.{term};
 ghost use Rattle.fj_plain.specs.declared.order_name.OrderName.TheVariants as orders;
-ghost use Rattle.fj_ideal.specs.Ideal.{IsIdeal};
 ghost use Rattle.fj_ideal.specs.Lists.{RunFor};
+ghost use Rattle.fj_ideal.specs.Reduced.{IsReduced};
 ghost use Rattle.fj_ideal.specs.Stop.{StopsOnlyWith};
 ghost use Rattle.fj_testideal.specs.Threshold.{IsPowerInside};
 ghost use Rattle.fj_chain.specs.Lists.{IsDigitList, IsHighInDigits, LeadTo};
 
 use fj_basis::Stop;
-use fj_chain::step;
 use fj_coeff::Coeff;
-use fj_ideal::Ideal;
+use fj_frobenius::reduced_root_of_multiples;
+use fj_ideal::{Ideal, Reduced};
 use fj_mono::Mono;
 use fj_poly::{GPoly, Poly};
 use std::alloc::{AllocError, Global};
@@ -36,7 +36,7 @@ pub(crate) fn is_power_inside<K: Coeff>(
     let _ = f.is_zero();
     let _ = j.given();
     let root = root_of_power(alloc, f, higher, last, pairs)?;
-    Ok(j.contains(alloc, &root)?)
+    Ok(root.is_inside(alloc, j)?)
 }
 
 // The polynomial 1.
@@ -53,17 +53,17 @@ fn root_of_power<K: Coeff>(
     higher: &[u64],
     last: u64,
     pairs: u64,
-) -> Result<Ideal<K>, Stop>
+) -> Result<Reduced<K>, Stop>
     ensures list { IfOk result (λ J. LeadTo K.field f.now (higher.now ++ last ∷ []) (term 1 origin ∷ []) J.given) }
-    ensures ideal { IfOk result (IsIdeal K.field) }
+    ensures ideal { IfOk result (IsReduced K.field) }
     ensures stop { StopsOnlyWith K.field (RunFor orders.Grevlex (IsDigitList K.field f.now (higher.now ++ last ∷ []))) (IsHighInDigits K.field f.now (higher.now ++ last ∷ [])) pairs result }
 {
     let one = one(alloc)?;
-    let unit = Ideal::of(alloc, slice::from_ref(&one), pairs)?;
-    let mut reached = step(alloc, last, f, &unit, pairs)?;
+    let unit = Reduced::of(alloc, slice::from_ref(&one), pairs)?;
+    let mut reached = reduced_root_of_multiples(alloc, last, f, &unit, pairs)?;
     let mut left = higher;
     while let [rest @ .., digit] = left {
-        reached = step(alloc, *digit, f, &reached, pairs)?;
+        reached = reduced_root_of_multiples(alloc, *digit, f, &reached, pairs)?;
         left = rest;
     }
     Ok(reached)

@@ -10,7 +10,7 @@ ghost use Rattle.fj_thresh.specs.Lists.{IsHighInThreshold, IsThresholdList};
 
 use crate::types::Threshold;
 use fj_basis::Stop;
-use fj_chain::{left_limit, test_ideal};
+use fj_chain::{reduced_left_limit, reduced_test_ideal};
 use fj_coeff::Coeff;
 use fj_ideal::Ideal;
 use fj_poly::GPoly;
@@ -71,8 +71,8 @@ pub(crate) fn proper_threshold<K: Coeff>(
     let _ = f.is_zero();
     let _ = j.given();
     let (lower, upper) = gap_inside(alloc, f, j, e, pairs)?;
-    let left = left_limit(alloc, f, &upper, pairs)?;
-    if j.contains(alloc, &left)? {
+    let left = reduced_left_limit(alloc, f, &upper, pairs)?;
+    if left.is_inside(alloc, j)? {
         Ok(Threshold::Between(lower, upper))
     } else {
         Ok(Threshold::At(upper))
@@ -102,8 +102,8 @@ fn gap_inside<K: Coeff>(
     let mut inside = ends.len() - 1;
     while inside - outside > 1 {
         let middle = outside + (inside - outside) / 2;
-        let ideal = test_ideal(alloc, f, &ends[middle], pairs)?;
-        if j.contains(alloc, &ideal)? {
+        let ideal = reduced_test_ideal(alloc, f, &ends[middle], pairs)?;
+        if ideal.is_inside(alloc, j)? {
             inside = middle;
         } else {
             outside = middle;

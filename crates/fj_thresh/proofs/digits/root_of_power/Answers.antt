@@ -2,7 +2,7 @@ use Rattle.std.proofs.Common.{ℕ, ◌-◌, List, [], ◌∷◌, ◌++◌, lengt
 use Rattle.fj_theory.specs.Exponents.{origin}
 use Rattle.fj_theory.specs.Polynomial.{term}
 use Rattle.fj_chain.specs.Lists.{IsStepFor}
-use Rattle.fj_chain.proofs.StepLists.{next_list, this_step, used_more}
+use Rattle.fj_chain.proofs.StepLists.{next_reduced_list, this_step, used_more}
 use Rattle.fj_thresh.proofs.DigitLists.{digit_stop, unit_stop}
 use Rattle.fj_thresh.proofs.digits.root_of_power.Goals as goal
 
@@ -40,7 +40,7 @@ loop-left-init g c =
         (
           c.in_ok-unit.unit.given,
           c.in_ok-unit.ensures.value.given ∙ c.from_ref.ensures.value ∙ ap (λ h. h ∷ []) c.in_ok-one.ensures,
-          next_list F f c.args.pairs (IsStepFor F f all (term 1 origin ∷ [])) c.args.last c.in_ok-unit.ensures.value.ideal c.in_ok-reached.ensures.list,
+          next_reduced_list F f c.args.pairs (IsStepFor F f all (term 1 origin ∷ [])) c.args.last c.in_ok-unit.ensures.value.ideal c.in_ok-reached.ensures.list,
         ),
       ),
       c.in_ok-reached.ensures.ideal,
@@ -57,7 +57,7 @@ loop-left-preserved g c =
       (
         digit ∷ inv.0.0,
         used_more all left inv.0.0 digit inv.0.1 c.in-len1-up.len_at_least refl,
-        (c.loop-left.reached.given, inv.0.2, next_list F f c.args.pairs (IsStepFor F f all (term 1 origin ∷ [])) digit inv.1 c.in_ok-reached-2.ensures.list),
+        (c.loop-left.reached.given, inv.0.2, next_reduced_list F f c.args.pairs (IsStepFor F f all (term 1 origin ∷ [])) digit inv.1 c.in_ok-reached-2.ensures.list),
       ),
       c.in_ok-reached-2.ensures.ideal,
     )

@@ -25,8 +25,8 @@ loop-inside-init g c =
       within = λ d. end_inside L A P c.args.e N c.requires.positive c.requires.within.member (c.len-inside.result - 1) d (omega (arith, more, count));
     }
 
-pub test_ideal-requires-clause-at_most : goal.test_ideal-requires-clause-at_most
-test_ideal-requires-clause-at_most g c =
+pub reduced_test_ideal-requires-clause-at_most : goal.reduced_test_ideal-requires-clause-at_most
+reduced_test_ideal-requires-clause-at_most g c =
     let F = g.K.Coeff.field in
     let L = g.met.K.Coeff.lawful in
     let large = characteristic_large L in
@@ -65,7 +65,7 @@ loop-inside-preserved g c =
     let t = c.index.result.now in
     let at : (d : Fraction) → get_or ends m d ≡ t = λ d. at_place ends m d t (omega (arith, more, below)) c.index.ensures in
     let K = c.in_ok-ideal.ensures.value in
-    let test = c.in_ok-contains.ensures in
+    let test = c.in_ok-is_inside.ensures in
     elim c.if-branch.branch [
       | then-branch w ↦
           let outer = w.outside-is in

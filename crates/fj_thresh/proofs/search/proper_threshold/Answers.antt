@@ -5,13 +5,13 @@ use Rattle.fj_thresh.proofs.ThresholdGaps.{candidate_bounds, gap_of_threshold, g
 use Rattle.fj_thresh.proofs.ThresholdStops.{left_stop}
 use Rattle.fj_thresh.proofs.search.proper_threshold.Goals as goal
 
-pub left_limit-requires-clause-above_zero : goal.left_limit-requires-clause-above_zero
-left_limit-requires-clause-above_zero g c =
+pub reduced_left_limit-requires-clause-above_zero : goal.reduced_left_limit-requires-clause-above_zero
+reduced_left_limit-requires-clause-above_zero g c =
     let large = characteristic_large g.met.K.Coeff.lawful in
     (candidate_bounds g.K.Coeff.field.characteristic c.args.e c.in_ok-lower.upper (omega (arith, large)) (gap_upper c.in_ok-lower.ensures.gap)).0
 
-pub left_limit-requires-clause-at_most : goal.left_limit-requires-clause-at_most
-left_limit-requires-clause-at_most g c =
+pub reduced_left_limit-requires-clause-at_most : goal.reduced_left_limit-requires-clause-at_most
+reduced_left_limit-requires-clause-at_most g c =
     let large = characteristic_large g.met.K.Coeff.lawful in
     (candidate_bounds g.K.Coeff.field.characteristic c.args.e c.in_ok-lower.upper (omega (arith, large)) (gap_upper c.in_ok-lower.ensures.gap)).1
 
@@ -23,7 +23,7 @@ returns-in_err-left-clause-stop g c =
 pub returns-then-branch-clause-value : goal.returns-then-branch-clause-value
 returns-then-branch-clause-value g c =
     let gap : Gap = record { lower = c.in_ok-lower.lower; upper = c.in_ok-lower.upper } in
-    (c.requires.within, gap_of_threshold g.met.K.Coeff.lawful c.is_zero.ensures.polynomial c.given.ensures.ideal.polynomials c.args.e gap c.in_ok-lower.ensures.gap c.in_ok-left.ensures.value (c.in_ok-contains.ensures.0 c.if-branch.true))
+    (c.requires.within, gap_of_threshold g.met.K.Coeff.lawful c.is_zero.ensures.polynomial c.given.ensures.ideal.polynomials c.args.e gap c.in_ok-lower.ensures.gap c.in_ok-left.ensures.value (c.in_ok-is_inside.ensures.0 c.if-branch.true))
 
 pub returns-clause-value : goal.returns-clause-value
 returns-clause-value g c =
@@ -31,5 +31,5 @@ returns-clause-value g c =
       c.requires.within,
       gap_upper c.in_ok-lower.ensures.gap,
       upper_is_threshold g.met.K.Coeff.lawful c.is_zero.ensures.polynomial c.given.ensures.ideal.polynomials c.args.e gap c.in_ok-lower.ensures.gap c.in_ok-left.ensures.value
-          (λ i. true≢false (sym (c.in_ok-contains.ensures.1 i) ∙ c.if-branch.false)),
+          (λ i. true≢false (sym (c.in_ok-is_inside.ensures.1 i) ∙ c.if-branch.false)),
     )

@@ -1,7 +1,0 @@
-use Rattle.std.proofs.Common.{All, take}
-use Rattle.fj_theory.specs.Ideal.{Member}
-use Rattle.fj_ideal.proofs.ideal.Ideal.contains.Given as goal
-
--- the members so far are in the ideal
-abbrev pub invariant-loop-g : goal.invariant-loop-g
-invariant-loop-g g l = All (Member g.K.Coeff.field l.self.given) (take l.g-index l.g-items)
