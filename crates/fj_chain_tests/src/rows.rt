@@ -3,7 +3,9 @@
 ghost use Rattle.std.specs.Prelude.{IsTrue};
 ghost use Rattle.fj_chain.specs.Admissible.{IsAdmissible};
 
-use fj_chain::{falling, is_jump, left_limit, rising, step, test_ideal};
+use fj_chain::{
+    falling, is_jump, left_limit, reduced_left_limit, reduced_test_ideal, rising, step, test_ideal,
+};
 use fj_coeff::{Coeff, Fp, is_prime};
 use fj_elim::lacks_eighth;
 use fj_ideal::Ideal;
@@ -45,7 +47,16 @@ fn are<K: Coeff>(
     ideal: &Ideal<K>,
     rows: &[Terms],
 ) -> Result<(), Fail> {
-    let members = ideal.members();
+    have_rows(rt, alloc, ideal.members(), rows)
+}
+
+// The polynomials have these terms, in this order.
+fn have_rows<K: Coeff>(
+    rt: &impl Abort,
+    alloc: Global,
+    members: &[GPoly<K>],
+    rows: &[Terms],
+) -> Result<(), Fail> {
     assert_eq!(rt; members.len(), rows.len());
     for (f, row) in members.iter().zip(rows) {
         assert!(rt; f.same(&poly(rt, alloc, row)?));
@@ -63,7 +74,7 @@ fn is_admissible<K: Coeff>(f: &GPoly<K>) -> bool
     }
 }
 
-// The test ideal at a fraction, the limit from the left, and whether it is a jump.
+// The test ideal at a fraction and the limit from the left, with cofactors and without, and whether it is a jump.
 fn has_limits<K: Coeff>(
     rt: &impl Abort,
     alloc: Global,
@@ -80,6 +91,18 @@ fn has_limits<K: Coeff>(
     assert!(rt; t.num() <= 8 * t.den());
     are(rt, alloc, &test_ideal(alloc, &f, &t, 100)?, test)?;
     are(rt, alloc, &left_limit(alloc, &f, &t, 100)?, left)?;
+    have_rows(
+        rt,
+        alloc,
+        reduced_test_ideal(alloc, &f, &t, 100)?.members(),
+        test,
+    )?;
+    have_rows(
+        rt,
+        alloc,
+        reduced_left_limit(alloc, &f, &t, 100)?.members(),
+        left,
+    )?;
     assert_eq!(rt; is_jump(alloc, &f, &t, 100)?, jump);
     Ok(())
 }

@@ -3,8 +3,8 @@
 use crate::rows::{have_terms, poly, polys};
 use fj_basis::Stop;
 use fj_coeff::{Coeff, Fp};
-use fj_frobenius::{frobenius_power, frobenius_root, root_of_multiples};
-use fj_ideal::Ideal;
+use fj_frobenius::{frobenius_power, frobenius_root, reduced_root_of_multiples, root_of_multiples};
+use fj_ideal::{Ideal, Reduced};
 use fj_poly::GPoly;
 use std::alloc::Global;
 use std::process::Abort;
@@ -70,7 +70,7 @@ fn frobenius_powers(rt: HostRuntime) -> Result<(), Fail> {
     Ok(())
 }
 
-// The root at 1 of f^d*J has these members.
+// The root at 1 of f^d*J has these members, with cofactors and without.
 fn has_step<K: Coeff>(
     rt: &impl Abort,
     alloc: Global,
@@ -85,6 +85,13 @@ fn has_step<K: Coeff>(
         rt,
         alloc,
         root_of_multiples(alloc, d, &f, &j, 100)?.members(),
+        wanted,
+    )?;
+    let j = Reduced::of_owned(alloc, polys(rt, alloc, list)?, 100)?;
+    have_terms(
+        rt,
+        alloc,
+        reduced_root_of_multiples(alloc, d, &f, &j, 100)?.members(),
         wanted,
     )
 }

@@ -25,6 +25,8 @@ mod plain_polynomials;
 #[cfg(test)]
 mod polynomials;
 #[cfg(test)]
+mod reduced;
+#[cfg(test)]
 mod roots;
 #[cfg(test)]
 mod rows;
