@@ -1,3 +1,4 @@
+pub mod PackedExponents
 pub mod TalliedLemmas
 pub mod Raised
 pub mod NonzeroEntries

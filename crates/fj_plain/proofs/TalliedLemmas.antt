@@ -2,12 +2,14 @@
 use Rattle.std.proofs.Common.{◌≡◌, ℕ, ◌+◌, ◌%◌, ◌<◌, Bool, true, false, cond, if◌then◌else◌, ◌&&◌, ◌==◌, nat_lt, is_lt, ◌≤◌, List, [], ◌∷◌, ◌++◌, map, get_or, All, Option, Some, None, unwrap_or, nat_cmp, Contains, refl, sym, ap, ap₂, ◌∙◌, subst, arith, T}
 use Rattle.std.specs.List.{list_any, AllByRecursion}
 use Rattle.std.specs.List.Sorted.{IsStrictlySortedBy}
-use Rattle.std.specs.Map.{lookup}
-use Rattle.std.specs.BTreeMap.{BTreeMap, IsOrdered, is_at, keys, values}
+use Rattle.std.specs.Map.{lookup, keys_of, values_of}
+use Rattle.std.specs.BTreeMap.{BTreeMap, IsOrdered, is_at, values}
 use Rattle.std.specs.Cmp.Lexicographic.{slice_cmp}
 use Rattle.std.specs.FinMap.{get, insert, empty, entries, find, is_sorted, get-empty, get-insert, get-entries, from_sorted, entries-from_sorted, get-from_sorted, same_map}
 use Rattle.std.specs.FinMap.Entries.{below_all}
+use Rattle.std.specs.declared.cmp.Ordering.{Ordering}
 use Rattle.std.specs.declared.cmp.Ordering.TheVariants.{Less}
+use Rattle.std.specs.Cmp.{IsTotalOrder}
 use Rattle.std.proofs.Math.Nat.{mod-eq_of_lt}
 use Rattle.std.proofs.lemmas.Bool.{eqb-false, or_parts, ltb-true, ltb-false}
 use Rattle.std.proofs.lemmas.Cmp.{nat_list_cmp_total, eq_by_cmp_equiv}
@@ -25,7 +27,7 @@ use Rattle.fj_theory.proofs.FormalSum.{same, same_true}
 use Rattle.fj_theory.proofs.Polynomial.{coefficient_below, coefficient-with_coefficients, coefficient-empty, get-coefficient, coefficient-term, coefficient-sum}
 use Rattle.fj_theory.proofs.Terms.{find_none, find_All}
 use Rattle.fj_theory.proofs.Product.{All_above, below_not_same}
-use Rattle.fj_plain.specs.Tallied.{rank_at, tallied, nonzero_entries}
+use Rattle.fj_plain.specs.Tallied.{rank_at, rank_by, tallied, nonzero_entries}
 
 -- No entry is zero.
 pub record IsNonzero (f : Polynomial) : Type 0 where
@@ -67,19 +69,19 @@ lookup_outside a (e ∷ es) h =
     let parts = or_parts (same a e.0) _ h in
     ap (λ t. cond t (Some e.1) (lookup (is_at (slice_cmp nat_cmp a)) es)) parts.0 ∙ lookup_outside a es parts.1
 
-pub coefficient-tallied : (ranks : BTreeMap (List ℕ) ℕ) (a : List ℕ) → coefficient (tallied ranks) a ≡ rank_at ranks a
-coefficient-tallied ranks a = coefficient-with_coefficients (rank_at ranks) a (keys ranks) ∙ by (list_any (same a) (keys ranks)) refl
+pub coefficient-tallied : (ranks : List (List ℕ × ℕ)) (a : List ℕ) → coefficient (tallied ranks) a ≡ rank_at ranks a
+coefficient-tallied ranks a = coefficient-with_coefficients (rank_at ranks) a (keys_of ranks) ∙ by (list_any (same a) (keys_of ranks)) refl
   where
-    by : (t : Bool) → list_any (same a) (keys ranks) ≡ t → cond t (rank_at ranks a) 0 ≡ rank_at ranks a
+    by : (t : Bool) → list_any (same a) (keys_of ranks) ≡ t → cond t (rank_at ranks a) 0 ≡ rank_at ranks a
     by true e = refl
-    by false e = sym (ap (λ o. unwrap_or o 0) (lookup_outside a ranks.entries e))
+    by false e = sym (ap (λ o. unwrap_or o 0) (lookup_outside a ranks e))
 
 -- What a map holds where it has these ranks.
-pub tallied-from_ranks : (ranks : BTreeMap (List ℕ) ℕ) {f : Polynomial} → IsNonzero f → ((a : List ℕ) → rank_at ranks a ≡ coefficient f a) → tallied ranks ≡ f
-tallied-from_ranks ranks {f} P each = nonzero_equal (IsNonzero-with_coefficients (rank_at ranks) (keys ranks)) P (λ a. coefficient-tallied ranks a ∙ each a)
+pub tallied-from_ranks : (ranks : List (List ℕ × ℕ)) {f : Polynomial} → IsNonzero f → ((a : List ℕ) → rank_at ranks a ≡ coefficient f a) → tallied ranks ≡ f
+tallied-from_ranks ranks {f} P each = nonzero_equal (IsNonzero-with_coefficients (rank_at ranks) (keys_of ranks)) P (λ a. coefficient-tallied ranks a ∙ each a)
 
 -- A term is added by adding its rank at its exponents.
-pub tallied-add_rank : (p : ℕ) (old new : BTreeMap (List ℕ) ℕ) (exps : List ℕ) (rank : ℕ) → Contains primes p → IsPolynomial (prime_field p) (tallied old)
+pub tallied-add_rank : (p : ℕ) (old new : List (List ℕ × ℕ)) (exps : List ℕ) (rank : ℕ) → Contains primes p → IsPolynomial (prime_field p) (tallied old)
     → ((a : List ℕ) → rank_at new a ≡ (if same exps a then (rank_at old exps + rank) % p else rank_at old a))
     → tallied new ≡ sum (prime_field p) (tallied old) (term rank exps)
 unfolding sum
@@ -97,48 +99,49 @@ tallied-add_rank p old new exps rank prime P added =
         sym (ap (λ n. n % p) (omega arith) ∙ mod-eq_of_lt small)
 
 -- The ranks are below p.
-pub rank_at_below : (p : ℕ) (ranks : BTreeMap (List ℕ) ℕ) (a : List ℕ) → Contains primes p → IsPolynomial (prime_field p) (tallied ranks) → rank_at ranks a < p
+pub rank_at_below : (p : ℕ) (ranks : List (List ℕ × ℕ)) (a : List ℕ) → Contains primes p → IsPolynomial (prime_field p) (tallied ranks) → rank_at ranks a < p
 rank_at_below p ranks a prime P = subst (λ r. r < p) (coefficient-tallied ranks a) (coefficient_below P (zero_below (IsField-prime_field p prime)) a)
 
--- An empty map holds zero, and so does exactly a map of zeros.
-pub tallied-empty : (ranks : BTreeMap (List ℕ) ℕ) → ranks.entries ≡ [] → tallied ranks ≡ empty
-unfolding with_coefficients
-tallied-empty ranks e = ap (λ es. with_coefficients (rank_at ranks) (map (λ (t : List ℕ × ℕ). t.0) es)) e
+-- Entries whose ranks are zero hold zero, and only they.
+pub tallied-zeros : (ranks : List (List ℕ × ℕ)) → ((a : List ℕ) → rank_at ranks a ≡ 0) → tallied ranks ≡ empty
+tallied-zeros ranks zero =
+    tallied-from_ranks ranks (record { positive = λ a d e. absurd (none-some d (sym (get-empty (slice_cmp nat_cmp) a) ∙ e)) }) (λ a. zero a ∙ sym (coefficient-empty a))
 
-lookup_zero : (test : List ℕ → Bool) (es : List (List ℕ × ℕ)) → All (λ c. c ≡ 0) (map (λ e. e.1) es) → unwrap_or (lookup test es) 0 ≡ 0
+pub zeros_from_tallied : (ranks : List (List ℕ × ℕ)) → tallied ranks ≡ empty → (a : List ℕ) → rank_at ranks a ≡ 0
+zeros_from_tallied ranks none a = sym (coefficient-tallied ranks a) ∙ ap (λ f. coefficient f a) none ∙ coefficient-empty a
+
+pub lookup_zero : {K : Type 0} (test : K → Bool) (es : List (K × ℕ)) → All (λ c. c ≡ 0) (values_of es) → unwrap_or (lookup test es) 0 ≡ 0
 lookup_zero test [] all = refl
-lookup_zero test (e ∷ es) all = by (test e.0) (lookup_zero test es (All-tail (λ c. c ≡ 0) e.1 (map (λ d. d.1) es) all))
+lookup_zero test (e ∷ es) all = by (test e.0) (lookup_zero test es (All-tail (λ c. c ≡ 0) e.1 (values_of es) all))
   where
     by : (t : Bool) → unwrap_or (lookup test es) 0 ≡ 0 → unwrap_or (cond t (Some e.1) (lookup test es)) 0 ≡ 0
-    by true rest = All-head (λ c. c ≡ 0) e.1 (map (λ d. d.1) es) all
+    by true rest = All-head (λ c. c ≡ 0) e.1 (values_of es) all
     by false rest = rest
 
-pub tallied-zeros : (ranks : BTreeMap (List ℕ) ℕ) → All (λ c. c ≡ 0) (values ranks) → tallied ranks ≡ empty
-tallied-zeros ranks all =
-    tallied-from_ranks ranks (record { positive = λ a d e. absurd (none-some d (sym (get-empty (slice_cmp nat_cmp) a) ∙ e)) })
-    (λ a. lookup_zero (is_at (slice_cmp nat_cmp a)) ranks.entries all ∙ sym (coefficient-empty a))
-
-pub zeros_from_tallied : (ranks : BTreeMap (List ℕ) ℕ) → IsOrdered (slice_cmp nat_cmp) ranks → tallied ranks ≡ empty → All (λ c. c ≡ 0) (values ranks)
-zeros_from_tallied ranks ordered none =
+pub zeros_from_lookups : {K : Type 0} {cmp : K → K → Ordering} → IsTotalOrder cmp → (ranks : BTreeMap K ℕ) → IsOrdered cmp ranks → ((k : K) → rank_by cmp ranks k ≡ 0) → All (λ c. c ≡ 0) (values ranks)
+zeros_from_lookups total ranks ordered zero =
     All-map (λ c. c ≡ 0) (λ e. e.1) ranks.entries
     (λ k d h.
-    let e : List ℕ × ℕ = get_or ranks.entries k d in
-    let found = btree_map_get_place nat_list_cmp_total ranks k e.0 e.1 ordered (slice_get-get_or ranks.entries k d h) in
-    sym (ap (λ o. unwrap_or o 0) found) ∙ sym (coefficient-tallied ranks e.0) ∙ ap (λ f. coefficient f e.0) none ∙ coefficient-empty e.0)
+    let e = get_or ranks.entries k d in
+    sym (ap (λ o. unwrap_or o 0) (btree_map_get_place total ranks k e.0 e.1 ordered (slice_get-get_or ranks.entries k d h))) ∙ zero e.0)
 
 -- What holds of the exponents that have a rank holds of the entries.
-entry_rank : (ranks : BTreeMap (List ℕ) ℕ) → IsOrdered (slice_cmp nat_cmp) ranks → All (λ t. rank_at ranks t.0 ≡ t.1) ranks.entries
+entry_rank : (ranks : BTreeMap (List ℕ) ℕ) → IsOrdered (slice_cmp nat_cmp) ranks → All (λ t. rank_at ranks.entries t.0 ≡ t.1) ranks.entries
 entry_rank ranks ordered k d h =
     let e : List ℕ × ℕ = get_or ranks.entries k d in
     ap (λ o. unwrap_or o 0) (btree_map_get_place nat_list_cmp_total ranks k e.0 e.1 ordered (slice_get-get_or ranks.entries k d h))
 
-pub entries_from_ranks : (P : List ℕ → Type 0) (ranks : BTreeMap (List ℕ) ℕ) → IsOrdered (slice_cmp nat_cmp) ranks → ((a : List ℕ) → 0 < rank_at ranks a → P a) → All (λ t. 0 < t.1 → P t.0) ranks.entries
+pub entries_from_ranks : (P : List ℕ → Type 0) (ranks : BTreeMap (List ℕ) ℕ) → IsOrdered (slice_cmp nat_cmp) ranks → ((a : List ℕ) → 0 < rank_at ranks.entries a → P a) → All (λ t. 0 < t.1 → P t.0) ranks.entries
 entries_from_ranks P ranks ordered each k d h positive =
     let e : List ℕ × ℕ = get_or ranks.entries k d in
     each e.0 (subst (λ c. 0 < c) (sym (entry_rank ranks ordered k d h)) positive)
 
+-- Entries with the same ranks hold the same polynomial.
+pub tallied_same : (es fs : List (List ℕ × ℕ)) → ((a : List ℕ) → rank_at es a ≡ rank_at fs a) → tallied es ≡ tallied fs
+tallied_same es fs each = tallied-from_ranks es (IsNonzero-with_coefficients (rank_at fs) (keys_of fs)) (λ a. each a ∙ sym (coefficient-tallied fs a))
+
 -- What holds of the exponents of the terms holds of those that have a rank.
-pub ranks_from_terms : (P : List ℕ → Type 0) (ranks : BTreeMap (List ℕ) ℕ) → All (λ t. P t.0) (entries (tallied ranks)) → (a : List ℕ) → 0 < rank_at ranks a → P a
+pub ranks_from_terms : (P : List ℕ → Type 0) (ranks : List (List ℕ × ℕ)) → All (λ t. P t.0) (entries (tallied ranks)) → (a : List ℕ) → 0 < rank_at ranks a → P a
 ranks_from_terms P ranks all a positive =
     let found = get-coefficient (tallied ranks) a (subst (λ c. 0 < c) (sym (coefficient-tallied ranks a)) positive) in
     find_All (λ t. P t.0) (entries (tallied ranks)) a (coefficient (tallied ranks) a) all (sym (get-entries (tallied ranks) a) ∙ found)
@@ -194,7 +197,7 @@ nonzero_positive (e ∷ es) = by (nat_lt 0 e.1) refl (nonzero_positive es)
     by false h rest = rest
 
 -- The terms of what a map holds are its entries that aren't zero.
-pub rising_terms-tallied : (ranks : BTreeMap (List ℕ) ℕ) → IsOrdered (slice_cmp nat_cmp) ranks → entries (tallied ranks) ≡ nonzero_entries ranks.entries
+pub rising_terms-tallied : (ranks : BTreeMap (List ℕ) ℕ) → IsOrdered (slice_cmp nat_cmp) ranks → entries (tallied ranks.entries) ≡ nonzero_entries ranks.entries
 unfolding coefficient
 rising_terms-tallied ranks ordered =
     let es : List (List ℕ × ℕ) = nonzero_entries ranks.entries in
@@ -202,4 +205,4 @@ rising_terms-tallied ranks ordered =
     let made : Polynomial = from_sorted es in
     let found : (a : List ℕ) → get made a ≡ find (slice_cmp nat_cmp) a es = λ a. get-from_sorted (slice_cmp nat_cmp) es a sorted in
     let P : IsNonzero made = record { positive = λ a c e. find_All (λ t. 0 < t.1) es a c (nonzero_positive ranks.entries) (sym (found a) ∙ e) } in
-    ap entries (tallied-from_ranks ranks P (λ a. sym (ap (λ o. unwrap_or o 0) (found a) ∙ find_nonzero a ranks.entries ordered))) ∙ entries-from_sorted (slice_cmp nat_cmp) es sorted
+    ap entries (tallied-from_ranks ranks.entries P (λ a. sym (ap (λ o. unwrap_or o 0) (found a) ∙ find_nonzero a ranks.entries ordered))) ∙ entries-from_sorted (slice_cmp nat_cmp) es sorted

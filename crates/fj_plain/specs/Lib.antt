@@ -1,6 +1,7 @@
 pub mod OrderRow
 pub mod Terms
 pub mod PlainCode
+pub mod Packing
 pub mod Tallied
 pub mod Holds
 pub mod TermKey

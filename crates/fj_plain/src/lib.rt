@@ -6,7 +6,9 @@ mod cert;
 mod identity;
 mod lists;
 mod order_name;
+mod packing;
 mod plain;
+mod ranks;
 mod tally;
 mod term;
 

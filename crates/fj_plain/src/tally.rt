@@ -1,9 +1,5 @@
 //! Sums over GF(p) to which terms are added one by one.
-ghost use Rattle.std.specs.Prelude.{◌≡◌, ◌<◌, ◌↔◌, ◌+◌, ◌%◌, ◌^◌, ℕ, List, All, Contains, IfOk, IsTrue, OnOk, if◌then◌else◌};
-ghost use Rattle.std.specs.Ordering.{nat_cmp, eq_by_cmp};
-ghost use Rattle.std.specs.BTreeMap.{IsOrdered, values};
-ghost use Rattle.std.specs.Cmp.Lexicographic.{slice_cmp};
-ghost use Rattle.fj_plain.specs.Tallied.{rank_at, nonzero_entries};
+ghost use Rattle.std.specs.Prelude.{◌≡◌, ◌<◌, ◌↔◌, ◌^◌, All, Contains, IfOk, IsTrue, OnOk};
 ghost use Rattle.fj_plain.specs.Terms.{entries};
 ghost use Rattle.std.specs.FinMap.{empty};
 ghost use Rattle.fj_coeff.specs.Field.{primes};
@@ -13,17 +9,16 @@ ghost use Rattle.fj_theory.specs.Polynomial.{IsPolynomial, sum, product, power, 
 ghost use Rattle.fj_theory.specs.Plain.{polynomial, rising_terms, HasRanksBelow};
 
 use crate::plain::PlainPoly;
+use crate::ranks::Ranks;
 use crate::term::PlainTerm;
 use std::alloc::{AllocError, Global};
 use std::array;
-use std::collections::BTreeMap;
 use std::marker::Model;
-
-type Ranks = BTreeMap<[u128; 8], u64>;
 
 /// A sum over GF(p) to which terms are added, seen as its polynomial. Exponents may be those of p^e-th powers.
 #[derive(Drop)]
 pub(crate) struct Tally {
+    alloc: Global,
     ranks: Ranks,
 }
 
@@ -32,13 +27,13 @@ impl Model for Tally {
     ghost use Rattle.std.specs.FinMap.{code};
     ghost use Rattle.fj_theory.specs.Exponents.{origin, plus, times};
     ghost use Rattle.fj_theory.specs.Polynomial.{Polynomial};
-    ghost use Rattle.fj_plain.specs.Tallied.{tallied};
+    ghost use Rattle.fj_plain.specs.Tallied.{by_exponents, tallied};
 
     ghost Value = { Polynomial };
 
     ghost coded = { code (coded_list coded_ℕ) coded_ℕ };
 
-    ghost view = { λ t. tallied t.ranks };
+    ghost view = { λ t. tallied (by_exponents t.ranks) };
 }
 
 impl Tally {
@@ -47,7 +42,8 @@ impl Tally {
         ensures { result ≡ empty }
     {
         Tally {
-            ranks: BTreeMap::new(alloc),
+            alloc,
+            ranks: Ranks::new(alloc),
         }
     }
 
@@ -58,7 +54,7 @@ impl Tally {
         requires over { IsPolynomial (prime_field p) self.old }
         ensures { OnOk result (self.new ≡ sum (prime_field p) self.old (term rank exps)) }
     {
-        add_rank(&mut self.ranks, p, exps, rank)
+        self.ranks.add(self.alloc, p, exps, rank)
     }
 
     /// Adds a term times the q-th power of a polynomial, where q is p^e.
@@ -129,63 +125,15 @@ impl Tally {
         requires { All (λ t. All (λ k. k < 2 ^ 64) t.0) (rising_terms self.now) }
         ensures { IfOk result (λ v. entries v.items ≡ rising_terms self.now) }
     {
-        nonzero_terms(alloc, &self.ranks)
+        self.ranks.nonzero_terms(alloc)
     }
 
     /// Whether the sum is zero.
     pub(crate) fn is_zero(&self) -> bool
         ensures { IsTrue result ↔ (self.now ≡ empty) }
     {
-        are_zero(&self.ranks)
+        self.ranks.are_zero()
     }
-}
-
-// Adds a rank to the one at some exponents.
-fn add_rank(ranks: &mut Ranks, p: u64, exps: [u128; 8], rank: u64) -> Result<(), AllocError>
-    requires positive { 0 < p }
-    requires fits { rank_at ranks.old exps + rank < 2 ^ 64 }
-    ensures { OnOk result ((a : List ℕ) → rank_at ranks.new a ≡ (if eq_by_cmp (slice_cmp nat_cmp) exps a then (rank_at ranks.old exps + rank) % p else rank_at ranks.old a)) }
-{
-    if let Some(held) = ranks.get_mut(&exps) {
-        *held = (*held + rank) % p;
-        return Ok(());
-    }
-    ranks.insert(exps, rank % p)?;
-    Ok(())
-}
-
-// The terms whose ranks aren't zero, in order.
-fn nonzero_terms(alloc: Global, ranks: &Ranks) -> Result<Vec<PlainTerm>, AllocError>
-    requires { (a : List ℕ) → 0 < rank_at ranks.now a → All (λ k. k < 2 ^ 64) a }
-    ensures terms { IfOk result (λ v. entries v.items ≡ nonzero_entries ranks.now.entries) }
-    ensures ordered { IsOrdered (slice_cmp nat_cmp) ranks.now }
-{
-    let mut terms = Vec::new(alloc);
-    for (exps, rank) in ranks.iter() {
-        if *rank > 0 {
-            terms.push(PlainTerm {
-                exps: narrowed(*exps),
-                rank: *rank,
-            })?;
-        }
-    }
-    Ok(terms)
-}
-
-// The same exponents, which fit.
-fn narrowed(exps: [u128; 8]) -> [u64; 8]
-    requires { All (λ k. k < 2 ^ 64) exps }
-    ensures { result ≡ exps }
-{
-    array::from_fn(|k| exps[k] as u64)
-}
-
-// Whether each rank is zero.
-fn are_zero(ranks: &Ranks) -> bool
-    ensures zero { IsTrue result ↔ All (λ c. c ≡ 0) (values ranks.now) }
-    ensures ordered { IsOrdered (slice_cmp nat_cmp) ranks.now }
-{
-    ranks.values().all(|rank| *rank == 0)
 }
 
 // A rank times the monomial 1.

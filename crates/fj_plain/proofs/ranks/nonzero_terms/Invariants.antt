@@ -1,7 +1,7 @@
 use Rattle.std.proofs.Common.{◌≡◌, ◌<◌, ◌^◌, ◌++◌, All}
 use Rattle.fj_plain.specs.Terms.{entries}
 use Rattle.fj_plain.specs.Tallied.{nonzero_entries}
-use Rattle.fj_plain.proofs.tally.nonzero_terms.Given as goal
+use Rattle.fj_plain.proofs.ranks.nonzero_terms.Given as goal
 
 -- what is left to read completes the terms
 abbrev pub invariant-loop-exps : goal.invariant-loop-exps

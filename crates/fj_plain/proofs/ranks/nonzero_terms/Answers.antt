@@ -7,7 +7,7 @@ use Rattle.fj_plain.specs.Terms.{entry, entries}
 use Rattle.fj_plain.specs.Tallied.{nonzero_entries}
 use Rattle.fj_plain.proofs.TalliedLemmas.{entries_from_ranks}
 use Rattle.fj_plain.proofs.NonzeroEntries.{nonzero_entries_push, nonzero_entries_skip}
-use Rattle.fj_plain.proofs.tally.nonzero_terms.Goals as goal
+use Rattle.fj_plain.proofs.ranks.nonzero_terms.Goals as goal
 
 Fits : List ℕ × ℕ → Type 0
 Fits t = 0 < t.1 → All (λ k. k < 2 ^ 64) t.0
