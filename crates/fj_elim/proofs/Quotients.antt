@@ -1,14 +1,14 @@
 -- Quotients of ideals by their members, one after another.
-use Rattle.std.proofs.Common.{◌≡◌, ◌≢◌, ◌⊎◌, inl, inr, ℕ, zero, suc, ◌+◌, ◌<◌, List, [], ◌∷◌, ◌++◌, Option, Some, length, get_or, map, take, drop, All, Contains, refl, sym, ap, ◌∙◌, subst, add-one, arith}
+use Rattle.std.proofs.Common.{◌≡◌, ◌≢◌, inl, inr, ℕ, zero, suc, ◌+◌, ◌<◌, List, [], ◌∷◌, ◌++◌, Option, Some, length, get_or, map, take, drop, All, Contains, refl, sym, ap, ◌∙◌, subst, add-one, arith}
 use Rattle.std.specs.FinMap.{empty}
 use Rattle.std.specs.Option.{option_to_list}
 use Rattle.std.proofs.Math.Seq.{take-suc}
 use Rattle.std.proofs.lemmas.List.Elements.{All-cons, All-head, All-nil}
 use Rattle.fj_coeff.specs.Field.{Field, IsField}
-use Rattle.fj_theory.specs.Colon.{IsColon, IsMeet}
+use Rattle.fj_theory.specs.Colon.{IsColon}
 use Rattle.fj_theory.specs.Exponents.{origin}
 use Rattle.fj_theory.specs.Ideal.{ArePolynomials, Member, multiples}
-use Rattle.fj_theory.specs.MonomialOrder.{elim_key, grevlex_key}
+use Rattle.fj_theory.specs.MonomialOrder.{grevlex_key}
 use Rattle.fj_theory.specs.PointIdeal.{UsesFirst}
 use Rattle.fj_theory.specs.Polynomial.{Polynomial, IsPolynomial, product, term}
 use Rattle.fj_theory.proofs.Colon.{Inside-IsMeet_right, IsColon-SameIdeal, IsColon-append, IsColon-zeros}
@@ -20,16 +20,15 @@ use Rattle.fj_groebner.specs.Run.{given}
 use Rattle.fj_groebner.specs.ReducedBasis.{IsReducedBasis}
 use Rattle.fj_groebner.proofs.Elimination.{IsColon-elimination, IsDivision-IsExact}
 use Rattle.fj_groebner.proofs.Lacking.{IsReducedBasis-UsesFirst, UsesFirst-factors}
-use Rattle.fj_groebner.proofs.ReducedBasis.{IsReducedBasis-one, IsReducedBasis-same_ideal}
+use Rattle.fj_groebner.proofs.ReducedBasis.{IsReducedBasis_polynomials, IsReducedBasis-SameIdeal, IsReducedBasis-one, IsReducedBasis-same_ideal}
 use Rattle.fj_plain.specs.declared.order_name.OrderName.{OrderName}
 use Rattle.fj_plain.specs.declared.order_name.OrderName.TheVariants.{Elim, Grevlex}
 use Rattle.fj_ideal.specs.Lists.{RunFor}
 use Rattle.fj_basis.specs.Quotients.{IsDivided}
 use Rattle.fj_ideal.specs.Ideal.{IsIdeal, WithBasis}
-use Rattle.fj_ideal.proofs.HighProducts.{Contains-single}
 use Rattle.fj_ideal.proofs.ReducedBasis.{ArePolynomials-members, SameIdeal-members}
-use Rattle.fj_elim.specs.Lists.{IsColonBasis, IsColonGiven, IsColonList, IsEliminated, IsHighInColon, IsHighInMeet, IsMeetList, IsMeetOfColon, IsMetInColon, IsQuotientList, IsQuotientOfColon, by_member, so_far}
-use Rattle.fj_elim.proofs.Meets.{basis_is, eliminated-lacks, eliminated-meet}
+use Rattle.fj_elim.specs.Lists.{IsColonBasis, IsColonList, IsEliminated, IsHighInColon, IsHighInMeet, IsMeetList, IsMetInColon, IsQuotientList, by_member, so_far}
+use Rattle.fj_elim.proofs.Meets.{basis_is, eliminated-lacks, eliminated-meet, eliminated-reduced}
 
 module _ {F : Field} (L : IsField F) where
   -- The unit ideal.
@@ -67,14 +66,33 @@ module _ {F : Field} (L : IsField F) where
     pub colon_of_members : {Q : List Polynomial} → ArePolynomials F Q → IsColon F I.members B Q → IsColon F I.given B Q
     colon_of_members S c = IsColon-SameIdeal L (ArePolynomials-members L P) P.polynomials R R S S (SameIdeal-sym (SameIdeal-members L P)) (SameIdeal-refl L R) (SameIdeal-refl L S) c
 
-    pub basis_of_colon : {J : WithBasis} → IsIdeal F J → IsColon F I.given B J.given → IsColonBasis F I.members B J.members
-    basis_of_colon {J} Q c = record {
-      colon = IsColon-SameIdeal L P.polynomials (ArePolynomials-members L P) R R Q.polynomials (ArePolynomials-members L Q) (SameIdeal-members L P) (SameIdeal-refl L R) (SameIdeal-members L Q) c;
-      reduced = IsReducedBasis-same_ideal grevlex_key-IsMonomialOrder L Q.polynomials (ArePolynomials-members L Q) (SameIdeal-members L Q) Q.reduced;
-    }
+  -- The reduced basis of a quotient.
+  pub basis_of_quotients : {A B Q C : List Polynomial} → ArePolynomials F A → ArePolynomials F B → IsColon F A B Q → IsReducedBasis F grevlex_key Q C → IsColonBasis F A B C
+  basis_of_quotients P R c S =
+      let G = IsReducedBasis_polynomials grevlex_key-IsMonomialOrder L c.polynomials S in
+      let same = IsReducedBasis-SameIdeal grevlex_key-IsMonomialOrder L c.polynomials S in
+      record {
+        colon = IsColon-SameIdeal L P P R R c.polynomials G (SameIdeal-refl L P) (SameIdeal-refl L R) same c;
+        reduced = IsReducedBasis-same_ideal grevlex_key-IsMonomialOrder L c.polynomials G same S;
+      }
 
-  pub colon_by_members : {I J : WithBasis} → IsIdeal F I → IsIdeal F J → {Q : List Polynomial} → ArePolynomials F Q → IsColon F I.given J.members Q → IsColon F I.given J.given Q
-  colon_by_members P R S c = IsColon-SameIdeal L P.polynomials P.polynomials (ArePolynomials-members L R) R.polynomials S S (SameIdeal-refl L P.polynomials) (SameIdeal-sym (SameIdeal-members L R)) (SameIdeal-refl L S) c
+  -- The quotient by one member more is the meet of two quotients, and what is eliminated for their bases is its basis.
+  pub basis_of_meet : {A B C D N : List Polynomial} {g : Polynomial} → IsColonBasis F A B C → IsColonBasis F A (g ∷ []) D → All (UsesFirst 7) C → All (UsesFirst 7) D → IsEliminated F C D N
+      → IsColonBasis F A (B ++ g ∷ []) N
+  basis_of_meet b d lacks_C lacks_D e = record {
+    colon = IsColon-append b.colon d.colon (eliminated-meet L b.colon.polynomials d.colon.polynomials e lacks_C lacks_D);
+    reduced = eliminated-reduced L b.colon.polynomials d.colon.polynomials e;
+  }
+
+  pub colon_by_members : {I J : WithBasis} → IsIdeal F I → IsIdeal F J → {Q : List Polynomial} → IsColon F I.given J.members Q → IsColon F I.given J.given Q
+  colon_by_members P R c =
+      IsColon-SameIdeal L P.polynomials P.polynomials (ArePolynomials-members L R) R.polynomials c.polynomials c.polynomials (SameIdeal-refl L P.polynomials) (SameIdeal-sym (SameIdeal-members L R)) (SameIdeal-refl L c.polynomials) c
+
+  -- The quotient of two ideals is that of their members.
+  pub colon_of_bases : {I J : WithBasis} → IsIdeal F I → IsIdeal F J → {C : List Polynomial} → IsColonBasis F I.members J.members C → IsColon F I.given J.given C
+  colon_of_bases P R b =
+      IsColon-SameIdeal L (ArePolynomials-members L P) P.polynomials (ArePolynomials-members L R) R.polynomials b.colon.polynomials b.colon.polynomials
+      (SameIdeal-sym (SameIdeal-members L P)) (SameIdeal-sym (SameIdeal-members L R)) (SameIdeal-refl L b.colon.polynomials) b.colon
 
   -- The members of an ideal lack t where what it was made of does.
   pub members-lack : {J : WithBasis} → IsIdeal F J → All (UsesFirst 7) J.given → All (UsesFirst 7) J.members
@@ -143,12 +161,6 @@ module _ (F : Field) (A : List Polynomial) where
       → (o : OrderName) (M : List Polynomial) → RunFor Grevlex (λ N. N ≡ Q) o M → IsColonList F A B o M
   list_of_quotients B g there some Q q o M e = inr (e.0, record { g = g; there = there; nonzero = some; quotients = subst (IsQuotientList F A g) (sym e.1) q })
 
-  -- By two members or more the quotient is made of its reduced basis.
-  pub given_of_more : (before : List Polynomial) (g : Polynomial) (N : List Polynomial) → before ≢ [] → IsColonBasis F A (before ++ g ∷ []) N → IsColonGiven F A (before ++ g ∷ []) N
-  given_of_more [] g N some c = absurd (some refl)
-  given_of_more (x ∷ []) g N some c = c
-  given_of_more (x ∷ y ∷ before) g N some c = c
-
 -- The members before a place, the one there, and those after.
 pub split_at : (B : List Polynomial) (k : ℕ) (g : Polynomial) → k < length B → g ≡ get_or B k g → B ≡ take k B ++ g ∷ drop (suc k) B
 split_at [] k g l e = absurd (omega (arith, l))
@@ -166,3 +178,7 @@ one_more B k g l e = ap (λ n. take n B) (add-one k) ∙ take-suc B k g l ∙ ap
 pub some_member : (B : List Polynomial) → B ≢ [] → 0 < length B
 some_member [] some = absurd (some refl)
 some_member (x ∷ B) some = omega arith
+
+pub no_member : (B : List Polynomial) → length B < 1 → B ≡ []
+no_member [] l = refl
+no_member (x ∷ B) l = absurd (omega (arith, l))

@@ -1,57 +1,21 @@
 //! Quotients of ideals.
-ghost use Rattle.std.specs.Prelude.{◌≡◌, ◌≢◌, ◌∷◌, [], ◌++◌, IfOk, All};
+ghost use Rattle.std.specs.Prelude.{◌≡◌, ◌≢◌, ◌∷◌, [], IfOk, All};
 ghost use Rattle.std.specs.FinMap.{empty};
 ghost use Rattle.fj_theory.specs.Colon.{IsColon};
 ghost use Rattle.fj_theory.specs.Exponents.{origin};
-ghost use Rattle.fj_theory.specs.Ideal.{ArePolynomials, Member, multiples};
 ghost use Rattle.fj_theory.specs.PointIdeal.{UsesFirst};
-ghost use Rattle.fj_theory.specs.Polynomial.{IsPolynomial, product, term};
+ghost use Rattle.fj_theory.specs.Polynomial.{term};
 ghost use Rattle.fj_ideal.specs.Ideal.{IsIdeal, of_itself};
 ghost use Rattle.fj_ideal.specs.Stop.{StopsOnlyWith};
-ghost use Rattle.fj_elim.specs.Lists.{IsColonGiven, IsColonList, IsHighInColon, IsQuotientList};
+ghost use Rattle.fj_elim.specs.Lists.{IsColonGiven, IsColonList, IsHighInColon};
 
-use crate::elimination::{eliminated, meet};
-use fj_basis::{Stop, divide};
+use crate::bases::{colon_basis, quotient_list};
+use fj_basis::Stop;
 use fj_coeff::Coeff;
 use fj_ideal::Ideal;
 use fj_mono::Mono;
-use fj_poly::{GPoly, Poly, PolyFault};
+use fj_poly::{GPoly, Poly};
 use std::alloc::{AllocError, Global};
-use std::slice;
-
-// The quotient of a multiple of g by g.
-fn quotient<K: Coeff>(alloc: Global, h: &GPoly<K>, g: &GPoly<K>) -> Result<GPoly<K>, AllocError>
-    requires nonzero { g.now ≢ empty }
-    requires multiple { Member K.field (g.now ∷ []) h.now }
-    ensures value { IfOk result (λ q. h.now ≡ product K.field g.now q) }
-    ensures polynomial { IfOk result (IsPolynomial K.field) }
-{
-    // g is a polynomial over K.
-    let _ = g.is_zero();
-    match divide(alloc, h, slice::from_ref(g)) {
-        Ok((mut quotients, _)) => Ok(quotients.pop().unwrap()),
-        Err(PolyFault::High) => unreachable!(),
-        Err(PolyFault::Memory) => Err(AllocError),
-    }
-}
-
-// The quotients by g of multiples of g, in order.
-fn quotients<K: Coeff>(
-    alloc: Global,
-    list: &[GPoly<K>],
-    g: &GPoly<K>,
-) -> Result<Vec<GPoly<K>>, AllocError>
-    requires nonzero { g.now ≢ empty }
-    requires multiples { All (Member K.field (g.now ∷ [])) list.now }
-    ensures value { IfOk result (λ quotients. multiples K.field g.now quotients.items ≡ list.now) }
-    ensures polynomials { IfOk result (λ quotients. ArePolynomials K.field quotients.items) }
-{
-    let mut quotients = Vec::with_capacity(alloc, list.len())?;
-    for h in list {
-        quotients.push(quotient(alloc, h, g)?)?;
-    }
-    Ok(quotients)
-}
 
 // The unit ideal, made of [1].
 fn unit<K: Coeff>(alloc: Global) -> Result<Ideal<K>, AllocError>
@@ -90,8 +54,7 @@ pub fn colon_by<K: Coeff>(
     if g.is_zero() {
         return Ok(unit(alloc)?);
     }
-    let multiples = eliminated(alloc, members, slice::from_ref(g), pairs)?;
-    let list = quotients(alloc, &multiples, g)?;
+    let list = quotient_list(alloc, members, g, pairs)?;
     Ideal::of_owned(alloc, list, pairs)
 }
 
@@ -120,14 +83,12 @@ pub fn colon<K: Coeff>(
 {
     // What is given of the first ideal are polynomials.
     let _ = a.given();
-    let members = b.members();
-    if b.is_zero() {
-        return Ok(unit(alloc)?);
+    match b.members() {
+        [] => Ok(unit(alloc)?),
+        [g] => colon_by(alloc, a, g, pairs),
+        members => {
+            let list = colon_basis(alloc, a.members(), members, pairs)?;
+            Ok(Ideal::of_reduced(alloc, list)?)
+        }
     }
-    let mut colon = colon_by(alloc, a, &members[0], pairs)?;
-    for k in 1..members.len() {
-        let next = colon_by(alloc, a, &members[k], pairs)?;
-        colon = meet(alloc, &colon, &next, pairs)?;
-    }
-    Ok(colon)
 }

@@ -38,11 +38,11 @@ pub fn is_pure<K: Coeff>(alloc: Global, i: &Ideal<K>, pairs: u64) -> Result<bool
     // What is given of the ideal are polynomials.
     let _ = i.given();
     let colon = fedder_colon(alloc, i, pairs)?;
-    let parts = root_list(alloc, 1, colon.members())?;
+    let parts = root_list(alloc, 1, &colon)?;
     if has_constant(&parts) {
         return Ok(true);
     }
-    let split = Reduced::of_owned(alloc, parts, pairs)?;
+    let split = Reduced::by_thinning(alloc, parts, pairs)?;
     Ok(split.is_unit())
 }
 
@@ -69,7 +69,7 @@ pub fn is_pure_at<K: Coeff>(
         return Ok(PureAt::Off);
     }
     let colon = fedder_colon(alloc, i, pairs)?;
-    let root = root_list(alloc, 1, colon.members())?;
+    let root = root_list(alloc, 1, &colon)?;
     if has_nonzero(&root, at) {
         Ok(PureAt::Yes)
     } else {

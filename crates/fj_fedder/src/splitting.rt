@@ -1,6 +1,5 @@
 //! The ideal of the values at 1 of splittings.
 ghost use Rattle.std.specs.Prelude.{◌≡◌, ◌^◌, ◌∷◌, [], IfOk, All};
-ghost use Rattle.fj_theory.specs.Colon.{IsColon};
 ghost use Rattle.fj_theory.specs.FrobeniusPower as theory;
 ghost use Rattle.fj_theory.specs.Lead.{lead_coefficient};
 ghost use Rattle.fj_theory.specs.MonomialOrder.{grevlex_key};
@@ -9,55 +8,57 @@ ghost use Rattle.fj_theory.specs.Polynomial.{power};
 ghost use Rattle.fj_poly.specs.Limit.{IsHigh};
 ghost use Rattle.fj_ideal.specs.Ideal.{IsIdeal};
 ghost use Rattle.fj_ideal.specs.Stop.{StopsOnlyWith};
+ghost use Rattle.fj_elim.specs.Lists.{IsColonBasis};
 ghost use Rattle.fj_fedder.specs.Fedder.{IsFedderColon, IsSplitIdeal};
 ghost use Rattle.fj_fedder.specs.Lists.{IsFedderColonBasis, IsHighInSplit, IsListForColon, IsSplitGiven, IsSplitList};
 
 use fj_basis::Stop;
 use fj_coeff::Coeff;
-use fj_elim::colon;
-use fj_frobenius::{frobenius_power, frobenius_root};
+use fj_elim::colon_basis;
+use fj_frobenius::reduced_frobenius_power;
 use fj_ideal::Ideal;
-use fj_poly::{GPoly, PolyFault};
+use fj_mono::Mono;
+use fj_poly::{GPoly, Poly, PolyFault};
+use fj_root::root_list;
 use std::alloc::{AllocError, Global};
 
-// The quotient of (f^p) by (f) for a monic f, p the characteristic: f cancels, and so it is (f^(p-1)). Nothing is run.
-fn principal_colon<K: Coeff>(alloc: Global, f: &GPoly<K>) -> Result<Ideal<K>, AllocError>
+// The reduced basis of the quotient of (f^p) by (f) for a monic f, p the characteristic: f cancels, and so it is f^(p-1).
+fn principal_colon<K: Coeff>(alloc: Global, f: &GPoly<K>) -> Result<GPoly<K>, AllocError>
     requires monic { lead_coefficient grevlex_key f.now ≡ 1 }
     requires low { IsHigh (power K.field f.now (K.field.characteristic ^ 1)) → ⊥ }
     requires variables { UsesFirst 7 f.now }
-    ensures colon { IfOk result (λ J. IsColon K.field (theory.frobenius_power K.field (K.field.characteristic ^ 1) (f.now ∷ [])) (f.now ∷ []) J.given) }
-    ensures ideal { IfOk result (IsIdeal K.field) }
-    ensures variables { IfOk result (λ J. All (UsesFirst 7) J.members) }
+    ensures basis { IfOk result (λ h. IsColonBasis K.field (theory.frobenius_power K.field (K.field.characteristic ^ 1) (f.now ∷ [])) (f.now ∷ []) (h ∷ [])) }
+    ensures variables { IfOk result (UsesFirst 7) }
 {
     // f is a polynomial over K.
     let _ = f.is_zero();
     match f.pow(alloc, K::P - 1) {
-        Ok(power) => Ideal::of_reduced(alloc, vec![in alloc; power]?),
+        Ok(power) => Ok(power),
         Err(PolyFault::High) => unreachable!(),
         Err(PolyFault::Memory) => Err(AllocError),
     }
 }
 
-/// The quotient I^[p] : I of an ideal I, p the characteristic, with at most `pairs` turns in each run. For an ideal of one
-/// polynomial no pair is run.
+/// The reduced basis of the quotient I^[p] : I of an ideal I, p the characteristic, with at most `pairs` turns in each run.
+/// For an ideal of one polynomial no pair is run, and no cofactor is formed.
 pub(crate) fn fedder_colon<K: Coeff>(
     alloc: Global,
     i: &Ideal<K>,
     pairs: u64,
-) -> Result<Ideal<K>, Stop>
+) -> Result<Vec<GPoly<K>>, Stop>
     requires { All (UsesFirst 7) i.now.members }
-    ensures colon { IfOk result (λ C. IsFedderColon K.field i.now.given C.members) }
-    ensures ideal { IfOk result (IsIdeal K.field) }
-    ensures basis { IfOk result (λ C. IsFedderColonBasis K.field i.now.members C.members) }
-    ensures variables { IfOk result (λ C. All (UsesFirst 7) C.members) }
+    ensures colon { IfOk result (λ C. IsFedderColon K.field i.now.given C.items) }
+    ensures basis { IfOk result (λ C. IsFedderColonBasis K.field i.now.members C.items) }
+    ensures variables { IfOk result (λ C. All (UsesFirst 7) C.items) }
     ensures stop { StopsOnlyWith K.field (IsListForColon K.field i.now.members) (IsHighInSplit K.field i.now.members) pairs result }
 {
     // What is given of the ideal are polynomials.
     let _ = i.given();
-    let power = frobenius_power(alloc, 1, i, pairs)?;
+    let power = reduced_frobenius_power(alloc, 1, i, pairs)?;
     match i.members() {
-        [f] => Ok(principal_colon(alloc, f)?),
-        _ => colon(alloc, &power, i, pairs),
+        [] => Ok(vec![in alloc; Poly::term(alloc, K::one(), &Mono::one())?]?),
+        [f] => Ok(vec![in alloc; principal_colon(alloc, f)?]?),
+        members => colon_basis(alloc, power.members(), members, pairs),
     }
 }
 
@@ -78,5 +79,6 @@ pub fn split_ideal<K: Coeff>(alloc: Global, i: &Ideal<K>, pairs: u64) -> Result<
     ensures stop { StopsOnlyWith K.field (IsSplitList K.field i.now.members) (IsHighInSplit K.field i.now.members) pairs result }
 {
     let colon = fedder_colon(alloc, i, pairs)?;
-    frobenius_root(alloc, 1, &colon, pairs)
+    let parts = root_list(alloc, 1, &colon)?;
+    Ideal::of_owned(alloc, parts, pairs)
 }

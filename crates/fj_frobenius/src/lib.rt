@@ -6,5 +6,5 @@ mod power;
 mod root;
 
 pub use certificate::root_cert;
-pub use power::frobenius_power;
+pub use power::{frobenius_power, reduced_frobenius_power};
 pub use root::{frobenius_root, reduced_root_of_multiples, root_of_multiples};

@@ -6,12 +6,13 @@ ghost use Rattle.fj_theory.specs.Polynomial.{power};
 ghost use Rattle.fj_plain.specs.declared.order_name.OrderName.TheVariants as orders;
 ghost use Rattle.fj_ideal.specs.Ideal.{IsIdealOf};
 ghost use Rattle.fj_ideal.specs.Lists.{AreLow, NoList, RunFor};
+ghost use Rattle.fj_ideal.specs.Reduced.{IsReducedOf};
 ghost use Rattle.fj_ideal.specs.Stop.{StopsExactlyWith, StopsOnlyWith};
 ghost use Rattle.fj_frobenius.specs.Lists.{IsHighMember, IsPowerList};
 
 use fj_basis::{Stop, kept};
 use fj_coeff::Coeff;
-use fj_ideal::Ideal;
+use fj_ideal::{Ideal, Reduced};
 use fj_poly::{GPoly, PolyFault};
 use fj_root::frob_power;
 use std::alloc::Global;
@@ -36,6 +37,22 @@ pub fn frobenius_power<K: Coeff>(
 {
     let list = powers(alloc, e, ideal.members())?;
     Ideal::of_owned(alloc, list, pairs)
+}
+
+/// The same power, kept without cofactors. It stops exactly where `frobenius_power` does.
+pub fn reduced_frobenius_power<K: Coeff>(
+    alloc: Global,
+    e: u32,
+    ideal: &Ideal<K>,
+    pairs: u64,
+) -> Result<Reduced<K>, Stop>
+    requires { e ≤ 12 }
+    ensures value { IfOk result (IsReducedOf K.field (theory.frobenius_power K.field (K.field.characteristic ^ e) ideal.now.members)) }
+    ensures ideal { IfOk result (λ J. SameIdeal K.field (theory.frobenius_power K.field (K.field.characteristic ^ e) ideal.now.given) J.given) }
+    ensures stop { StopsExactlyWith K.field (RunFor orders.Grevlex (IsPowerList K.field (K.field.characteristic ^ e) ideal.now.members)) (IsHighMember K.field (K.field.characteristic ^ e) ideal.now.members) pairs result }
+{
+    let list = powers(alloc, e, ideal.members())?;
+    Reduced::of_owned(alloc, list, pairs)
 }
 
 // The q-th powers of polynomials, q = p^e.

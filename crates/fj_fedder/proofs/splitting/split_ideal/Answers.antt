@@ -1,12 +1,15 @@
-use Rattle.std.proofs.Common.{◌^◌, inl, inr}
+use Rattle.std.proofs.Common.{◌≡◌, ◌^◌, List, inl, inr, sym, subst}
 use Rattle.std.proofs.lemmas.Result.{IfOk-weaker}
+use Rattle.fj_theory.specs.Polynomial.{Polynomial}
+use Rattle.fj_theory.specs.Root.{IsRoot}
 use Rattle.fj_plain.specs.declared.order_name.OrderName.TheVariants.{Grevlex}
 use Rattle.fj_ideal.specs.Lists.{NoProduct, RunFor}
-use Rattle.fj_ideal.proofs.Stops.{only_handed_on, only_of_more}
+use Rattle.fj_ideal.proofs.Stops.{only_from_exactly, only_handed_on, only_of_more}
 use Rattle.fj_frobenius.specs.Lists.{IsRootList}
 use Rattle.fj_elim.proofs.Quotients.{members-lack}
-use Rattle.fj_fedder.specs.Lists.{IsHighInSplit, IsListForColon, IsSplitList}
-use Rattle.fj_fedder.proofs.Splits.{IfOk-both, parts-lack, root_to_members}
+use Rattle.fj_fedder.specs.Fedder.{IsSplitIdeal}
+use Rattle.fj_fedder.specs.Lists.{IsHighInSplit, IsListForColon, IsSplitGiven, IsSplitList}
+use Rattle.fj_fedder.proofs.Splits.{parts-lack}
 use Rattle.fj_fedder.proofs.splitting.split_ideal.Goals as goal
 
 pub returns-in_err-colon-clause-stop : goal.returns-in_err-colon-clause-stop
@@ -18,23 +21,33 @@ returns-in_err-colon-clause-stop g c =
 
 pub returns-clause-split : goal.returns-clause-split
 returns-clause-split g c =
-    IfOk-weaker c.frobenius_root.result _ _
-    (λ J root. record { colon = c.in_ok-colon.colon.members; is_colon = c.in_ok-colon.ensures.colon; root = root_to_members g.met.K.Coeff.lawful 1 c.in_ok-colon.ensures.ideal root })
-    c.frobenius_root.ensures.root
+    let F = g.K.Coeff.field in
+    let root = subst (λ (G : List Polynomial). IsRoot F (F.characteristic ^ 1) G c.in_ok-parts.parts.items) c.deref.ensures.value c.in_ok-parts.ensures.root in
+    let split : IsSplitIdeal F c.args.i.now.given c.in_ok-parts.parts.items = record { colon = c.in_ok-colon.colon.items; is_colon = c.in_ok-colon.ensures.colon; root = root } in
+    IfOk-weaker c.of_owned.result _ _ (λ J S. subst (IsSplitIdeal F c.args.i.now.given) (sym S.given) split) c.of_owned.ensures.value
 
 pub returns-clause-given : goal.returns-clause-given
 returns-clause-given g c =
-    IfOk-weaker c.frobenius_root.result _ _ (λ J parts. record { colon = c.in_ok-colon.colon.members; basis = c.in_ok-colon.ensures.basis; parts = parts }) c.frobenius_root.ensures.list
+    let F = g.K.Coeff.field in
+    let G = c.args.i.now.members in
+    let list = subst (λ (M : List Polynomial). IsRootList F (F.characteristic ^ 1) M c.in_ok-parts.parts.items) c.deref.ensures.value c.in_ok-parts.ensures.parts in
+    let given : IsSplitGiven F G c.in_ok-parts.parts.items = record { colon = c.in_ok-colon.colon.items; basis = c.in_ok-colon.ensures.basis; parts = list } in
+    IfOk-weaker c.of_owned.result _ _ (λ J S. subst (IsSplitGiven F G) (sym S.given) given) c.of_owned.ensures.value
 
 pub returns-clause-variables : goal.returns-clause-variables
 returns-clause-variables g c =
+    let F = g.K.Coeff.field in
     let L = g.met.K.Coeff.lawful in
-    IfOk-weaker c.frobenius_root.result _ _ (λ J both. members-lack L both.0 (parts-lack L 1 c.in_ok-colon.ensures.variables both.1)) (IfOk-both c.frobenius_root.result _ _ c.frobenius_root.ensures.ideal c.frobenius_root.ensures.list)
+    let list = subst (λ (M : List Polynomial). IsRootList F (F.characteristic ^ 1) M c.in_ok-parts.parts.items) c.deref.ensures.value c.in_ok-parts.ensures.parts in
+    IfOk-weaker c.of_owned.result _ _ (λ J S. members-lack L S.ideal (parts-lack L 1 c.in_ok-colon.ensures.variables (subst (IsRootList F (F.characteristic ^ 1) c.in_ok-colon.colon.items) (sym S.given) list))) c.of_owned.ensures.value
 
 pub returns-clause-stop : goal.returns-clause-stop
 returns-clause-stop g c =
     let F = g.K.Coeff.field in
     let G = c.args.i.now.members in
-    let C = c.in_ok-colon.colon.members in
-    only_of_more F c.args.pairs (RunFor Grevlex (IsRootList F (F.characteristic ^ 1) C)) (IsSplitList F G) NoProduct (IsHighInSplit F G)
-    (λ o N e. inr (e.0, record { colon = C; basis = c.in_ok-colon.ensures.basis; parts = e.1 })) (λ N none. absurd none) c.frobenius_root.result c.frobenius_root.ensures.stop
+    let P = c.in_ok-parts.parts.items in
+    let list = subst (λ (M : List Polynomial). IsRootList F (F.characteristic ^ 1) M P) c.deref.ensures.value c.in_ok-parts.ensures.parts in
+    let given : IsSplitGiven F G P = record { colon = c.in_ok-colon.colon.items; basis = c.in_ok-colon.ensures.basis; parts = list } in
+    let run = RunFor Grevlex (λ L. L ≡ P) in
+    only_of_more F c.args.pairs run (IsSplitList F G) NoProduct (IsHighInSplit F G) (λ o N e. inr (e.0, subst (IsSplitGiven F G) (sym e.1) given)) (λ N none. absurd none)
+    c.of_owned.result (only_from_exactly F c.args.pairs run NoProduct c.of_owned.result c.of_owned.ensures.stop)

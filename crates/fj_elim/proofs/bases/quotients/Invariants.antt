@@ -1,6 +1,6 @@
 use Rattle.std.proofs.Common.{◌≡◌, take}
 use Rattle.fj_theory.specs.Ideal.{ArePolynomials, multiples}
-use Rattle.fj_elim.proofs.colons.quotients.Given as goal
+use Rattle.fj_elim.proofs.bases.quotients.Given as goal
 
 -- the quotients of the multiples so far
 abbrev pub invariant-loop-h : goal.invariant-loop-h

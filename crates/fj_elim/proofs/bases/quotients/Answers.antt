@@ -1,10 +1,10 @@
-use Rattle.std.proofs.Common.{◌≡◌, ◌∷◌, [], ◌++◌, ◌∙◌, map, sym, ap, ap₂, subst}
-use Rattle.std.proofs.lemmas.List.{map-append, take_all}
+use Rattle.std.proofs.Common.{◌∷◌, [], ◌++◌, ◌∙◌, sym, ap, ap₂, subst}
+use Rattle.std.proofs.lemmas.List.{map-append}
 use Rattle.fj_theory.specs.Ideal.{Member, multiples}
 use Rattle.fj_theory.specs.Polynomial.{IsPolynomial, product}
 use Rattle.fj_basis.proofs.Copies.{copied_all}
 use Rattle.fj_elim.proofs.Quotients.{one_more}
-use Rattle.fj_elim.proofs.colons.quotients.Goals as goal
+use Rattle.fj_elim.proofs.bases.quotients.Goals as goal
 
 pub quotient-requires-clause-multiple : goal.quotient-requires-clause-multiple
 quotient-requires-clause-multiple g c =

@@ -1,10 +1,10 @@
-use Rattle.std.proofs.Common.{◌≡◌, ◌∷◌, [], ◌≢◌, ◌∙◌, All, ap, sym, subst}
+use Rattle.std.proofs.Common.{[], ◌≢◌, ◌∙◌, All, ap, sym, subst}
 use Rattle.std.specs.FinMap.{empty}
 use Rattle.std.proofs.lemmas.List.Elements.{All-cons, All-nil}
 use Rattle.fj_theory.specs.Polynomial.{IsPolynomial, product}
 use Rattle.fj_groebner.proofs.DegreeOrder.{grevlex_key-IsDegreeOrder}
 use Rattle.fj_elim.proofs.Quotients.{popped, quotient_of_multiple}
-use Rattle.fj_elim.proofs.colons.quotient.Goals as goal
+use Rattle.fj_elim.proofs.bases.quotient.Goals as goal
 
 pub divide-requires : goal.divide-requires
 divide-requires g c = subst (All (λ f. f ≢ empty)) (sym c.from_ref.ensures.value) (All-cons (λ f. f ≢ empty) c.args.g.now [] c.requires.nonzero (All-nil (λ f. f ≢ empty)))
